@@ -45,17 +45,31 @@ def socket_address: if .ret == -14 then "..." else .payload | bytes |
         "{sa_family=AF_INET, sin_port=htons(\(.[2] * 256 + .[3])), sin_addr=inet_addr(\"\(.[4:8] | map(tostring) | join("."))\")}"
     else quoted end end;
 def time: got(.payload | numbers(8) | "{tv_sec=\(.[0]), tv_nsec=\(.[1])}");
+def poll_flags: flags({"0": "POLLIN", "1": "POLLPRI", "2": "POLLOUT", "3": "POLLERR", "4": "POLLHUP", "5": "POLLNVAL", "6": "POLLRDNORM", "8": "POLLWRNORM", "13": "POLLRDHUP"});
+# the payload of a ppoll: the list of descriptors in 8 bytes each, the time if it has one, and, unless it failed, what was told of each in 2 bytes
+def number: reduce .[range(length - 1; -1; -1)] as $b (0; . * 256 + $b);
+def in_brackets: "[" + join(", ") + "]";
+def descriptors: [range(0; length; 8) as $i | {fd: (.[$i : $i + 4] | number | signed), events: (.[$i + 4 : $i + 6] | number | poll_flags)}];
+def polled: (if .ret < 0 then 0 else .args[1] * 2 end) as $told | (.payload | bytes | .[: length - $told]) as $asked
+    | (if ($asked | length) == .args[1] * 8 then ($asked | length) else ($asked | length) - 16 end) as $size
+    | {list: ($asked[: $size] | descriptors), time: $asked[$size :], told: (.payload | bytes | .[length - $told :])};
+def poll_arguments: .args[1] as $count | polled |
+    [(.list | map("{fd=\(.fd), events=\(.events)}") | in_brackets), $count, (if .time == [] then "NULL" else "{tv_sec=\(.time[:8] | number), tv_nsec=\(.time[8:] | number)}" end), "NULL", "8"];
+def poll_result: .ret as $ret | polled | [.told as $told | range(.list | length) as $i | {fd: .list[$i].fd, told: ($told[2 * $i : 2 * $i + 2] | number)} | select(.told > 0)
+    | "{fd=\(.fd), revents=\(.told | poll_flags)}"] | if $ret == 0 then "0 (Timeout)" else "\($ret) (\(in_brackets))" end;
 
-def name: {"17": "getcwd", "23": "dup", "24": "dup3", "29": "ioctl", "35": "unlinkat", "56": "openat", "57": "close", "59": "pipe2", "62": "_llseek",
+def name: {"17": "getcwd", "23": "dup", "24": "dup3", "25": "fcntl64", "29": "ioctl", "35": "unlinkat", "56": "openat", "57": "close", "59": "pipe2", "62": "_llseek",
     "63": "read", "64": "write", "65": "readv", "66": "writev", "93": "exit", "94": "exit_group", "160": "uname", "172": "getpid", "173": "getppid",
     "174": "getuid", "175": "geteuid", "176": "getgid", "177": "getegid", "198": "socket", "200": "bind", "201": "listen", "202": "accept", "220": "clone",
-    "242": "accept4", "278": "getrandom", "403": "clock_gettime64"}[tostring]
+    "242": "accept4", "278": "getrandom", "403": "clock_gettime64",
+    "407": "clock_nanosleep_time64", "414": "ppoll_time64"}[tostring]
     // "syscall_" + hex;
 
 def arguments: .args as [$a, $b, $c, $d, $e] | .nr as $nr |
     if $nr == 17 then [got(.payload | bytes[:-1] | quoted), $b]
     elif $nr == 23 or $nr == 57 then [$a | descriptor]
     elif $nr == 24 then [($a | descriptor), ($b | descriptor), ($c | flags({"19": "O_CLOEXEC"}))]
+    elif $nr == 25 then [($a | descriptor), ({"1": "F_GETFD", "2": "F_SETFD", "3": "F_GETFL", "4": "F_SETFL"}[$b | tostring] // $b), ($c | hex)]
     elif $nr == 29 then [($a | descriptor), ($b | hex), "..."]
     elif $nr == 35 then [($a | descriptor), sent, ($c | hex)]
     elif $nr == 56 then [($a | descriptor), sent, ($c | open_flags)]
@@ -74,12 +88,14 @@ def arguments: .args as [$a, $b, $c, $d, $e] | .nr as $nr |
     elif $nr == 242 then [($a | descriptor), "...", "...", ($d | socket_flags)]
     elif $nr == 278 then [read_text, $b, ($c | hex)]
     elif $nr == 403 then [(["CLOCK_REALTIME", "CLOCK_MONOTONIC"][$a] // $a), time]
+    elif $nr == 414 then poll_arguments
     else .args | map(hex) end | map(tostring) | join(", ");
 
 def result: if .nr == 93 or .nr == 94 then "?"
-    elif .ret < 0 and .ret >= -4095 then "-1 " + ({"2": "ENOENT", "9": "EBADF", "11": "EAGAIN", "14": "EFAULT", "17": "EEXIST", "20": "ENOTDIR", "22": "EINVAL",
+    elif .ret < 0 and .ret >= -4095 then "-1 " + ({"2": "ENOENT", "4": "EINTR", "9": "EBADF", "11": "EAGAIN", "14": "EFAULT", "17": "EEXIST", "20": "ENOTDIR", "22": "EINVAL",
         "24": "EMFILE", "25": "ENOTTY", "27": "EFBIG", "28": "ENOSPC", "29": "ESPIPE", "32": "EPIPE", "34": "ERANGE", "36": "ENAMETOOLONG", "38": "ENOSYS", "88": "ENOTSOCK",
         "98": "EADDRINUSE", "107": "ENOTCONN"}[-.ret | tostring])
+    elif .nr == 414 then poll_result
     else .ret end;
 
 (.log | any(.tid != 100)) as $threads | .log[] |

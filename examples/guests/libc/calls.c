@@ -128,8 +128,8 @@ static long socket_call(long n, long a, long b, long c, long d, long e, long f)
     case SYS_sendmsg: return send_message(a, (void *)b);
     case SYS_recvmsg: return receive_message(a, (void *)b);
     case SYS_sendfile64: return send_file(a, b, (void *)c, d);
-    case SYS_ppoll_time64: return poll_descriptors((void *)a, b, (void *)c);
-    case SYS_pselect6_time64: return select_descriptors(a, (void *)b, (void *)c, (void *)d, (void *)e);
+    case SYS_ppoll_time64: return poll_descriptors((void *)a, b, (void *)c, (void *)d);
+    case SYS_pselect6_time64: return select_descriptors(a, (void *)b, (void *)c, (void *)d, (void *)e, f ? *(const uint64_t **)f : NULL);
     default: return KERNEL_AMONG_OTHERS(n, a, b, c, d, e, f);
     }
 }
@@ -228,8 +228,7 @@ static long answer(long n, long a, long b, long c, long d, long e, long f)
     case SYS_madvise: return 0;
     case SYS_clock_gettime64: return clock_time(a, (void *)b);
     case SYS_clock_getres_time64: return clock_step((void *)b);
-    case SYS_nanosleep:
-    case SYS_clock_nanosleep_time64: return 0;
+    case SYS_clock_nanosleep_time64: return sleep_until(a, b, (void *)c);
     default: return process_call(n, a, b, c, d, e, f);
     }
 }

@@ -1,6 +1,6 @@
 #!/usr/bin/env bash
 # Builds answers.c over the guests' library and over the library as it is, and compares what the first writes under varan with what the second
-# writes under Linux, by qemu-riscv32; threads too (threaded.c). Looks at a server that polls (polled.c), and at what a full stack and what can't be had
+# writes under Linux, by qemu-riscv32; threads too (threaded.c). Looks at a server that polls (polled.c), over scripts of form 3 and of form 5, and at what a full stack and what can't be had
 # end with.
 # check.sh [PROGRAM]: crates/varan/out/varan where no program is named.
 # Status: 0 where all is so, 1 where something isn't, 2 where the program isn't built, 3 where a tool or the library is missing.
@@ -82,6 +82,16 @@ ends 'exited 0 '
 printf 'connections 3\nconnection 0 90 20\n7f000001:40001 HELLO\nconnection 1 90 15\n7f000001:40002 \nconnection 2 90 47\n%s\n' \
     '7f000001:40003 MORE BYTES THAN ARE READ AT ONCE' >"$work/expected"
 sed -n '/^connections /,$p' "$work/report" | diff "$work/expected" - || { echo "check.sh: the clients of polled.c get something else"; wrong=1; }
+
+# the same where clients come one after another: the first one is silent until the second has its answer and another has come; a poll is interrupted in the end
+{
+    echo 'varan-script 5'
+    printf 'connect 90\nconnect 90\ndata 1 %s\nconnect 90\nend 1\ndata 0 %s\nend clients\nend 2\nend 0\n' "$(printf hello | xxd -p)" "$(printf late | xxd -p)"
+} >"$work/script"
+console "$work/guest" >"$work/written"
+ends 'exited 0 '
+printf 'connections 3\nconnection 0 90 19\n7f000001:40001 LATE\nconnection 1 90 20\n7f000001:40002 HELLO\nconnection 2 90 15\n7f000001:40003 \n' >"$work/expected"
+sed -n '/^connections /,$p' "$work/report" | diff "$work/expected" - || { echo "check.sh: the clients of polled.c that come one after another get something else"; wrong=1; }
 
 [ "$wrong" = 0 ] && echo "check.sh: the answers are Linux's"
 exit $wrong

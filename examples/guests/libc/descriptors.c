@@ -205,6 +205,7 @@ long control_descriptor(long fd, long command, long argument)
         return O_RDWR | (asked->waits_not ? O_NONBLOCK : 0);
     case F_SETFL:
         asked->waits_not = argument & O_NONBLOCK;
+        set_waiting(fd, asked->waits_not);
         return 0;
     case F_SETLK:
     case F_SETLKW:
@@ -223,6 +224,7 @@ long control_device(long fd, unsigned long request, int *argument)
     if (!asked || request != FIONBIO)
         return KERNEL(SYS_ioctl, fd, request, argument);
     asked->waits_not = *argument != 0;
+    set_waiting(fd, asked->waits_not);
     return 0;
 }
 

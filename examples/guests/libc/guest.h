@@ -21,7 +21,7 @@ long guest_call(long number, long a, long b, long c, long d, long e, long f);
 
 /* ---- descriptors (descriptors.c, sockets.c) */
 
-enum { DESCRIPTORS = 128, FIRST_SOCKET = 64, ONLY_DIRECTORY = -100 };
+enum { DESCRIPTORS = 1024, FIRST_SOCKET = 64, ONLY_DIRECTORY = -100 };
 enum kind { ANY_FILE, NEW_SOCKET, LISTENER, CONNECTION };
 
 struct descriptor {
@@ -64,8 +64,12 @@ long socket_option(long fd, long level, long name, int *value, unsigned *length)
 long connect_socket(long fd);
 long on_connection(long fd);
 struct pollfd;
-long poll_descriptors(struct pollfd *asked, long count, const int64_t *timeout);
-long select_descriptors(long count, void *readable, void *writable, void *special, const int64_t *timeout);
+long poll_descriptors(struct pollfd *asked, long count, const int64_t *timeout, const uint64_t *mask);
+long select_descriptors(long count, void *readable, void *writable, void *special, const int64_t *timeout, const uint64_t *mask);
+/* The kernel is told whether calls on this descriptor wait; one that has no call for it isn't asked again. */
+void set_waiting(long fd, bool waits_not);
+/* Waits until then, where the kernel has a call for it. */
+long sleep_until(long clock, long flags, const int64_t *time);
 void not_quiet(void);
 /* A wait with an end found nothing. */
 void nothing_came(void);
@@ -115,3 +119,8 @@ long pending_signals(uint64_t *set);
 long wait_for_signal(const uint64_t *set);
 long send_signal(long process, long signal);
 void raise_signal(int signal);
+/*
+ * Nobody comes any more: a handler of SIGTERM or else of SIGINT is called, once, and the answer is -EINTR; where there is none the process ends. Later a wait with an
+ * end lasts to its end, so many times, and one without ends the process.
+ */
+long end_of_service(const int64_t *timeout, const uint64_t *mask);

@@ -6,8 +6,9 @@
 #include <errno.h>
 #include <signal.h>
 #include <sys/syscall.h>
+#include <time.h>
 
-enum { SIGNALS = 64 };
+enum { SIGNALS = 64, MOST_LAST = 16 };
 
 /* as the C library has it */
 struct action {
@@ -124,6 +125,35 @@ long set_mask(long how, const uint64_t *set, uint64_t *old)
 long pending_signals(uint64_t *set)
 {
     *set = pending;
+    return 0;
+}
+
+static bool has_handler(int signal)
+{
+    return actions[signal].handler != SIG_DFL && actions[signal].handler != SIG_IGN && !(blocked & bit(signal));
+}
+
+static long tell_of_end(const uint64_t *mask)
+{
+    uint64_t before = blocked;
+    if (mask)
+        blocked = *mask;
+    int signal = has_handler(SIGTERM) ? SIGTERM : SIGINT;
+    if (!has_handler(signal))
+        end_of_waiting();
+    raise_signal(signal);
+    blocked = before;
+    return -EINTR;
+}
+
+long end_of_service(const int64_t *timeout, const uint64_t *mask)
+{
+    static int told;
+    if (told++ == 0)
+        return tell_of_end(mask);
+    if (!timeout || told > MOST_LAST)
+        end_of_waiting();
+    sleep_until(CLOCK_MONOTONIC, 0, timeout);
     return 0;
 }
 

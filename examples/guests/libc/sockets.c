@@ -1,10 +1,12 @@
 /*
- * Sockets: addresses, options, and which of them can be read and written. A connection always can. A listener can be read while a client waits
+ * Sockets: addresses, options, and which of them can be read and written. In runs over scripts of the fifth form, as all live ones, the kernel polls.
+ * In the others it is done here. There a connection always can be read and written. A listener can be read while a client waits
  * for it: the layer accepts one to see, and keeps it for the accept that follows. With clients that come as they like (varan serve) to see is to wait
  * for the next one, so listeners are asked where there is no connection to be served first.
  */
 #include "guest.h"
 #include <errno.h>
+#include <fcntl.h>
 #include <poll.h>
 #include <string.h>
 #include <sys/select.h>
@@ -27,7 +29,7 @@ long new_socket(long domain, long type, long protocol)
         return -EAFNOSUPPORT;
     if ((type & 15) != SOCK_STREAM)
         return -ESOCKTNOSUPPORT;
-    long fd = KERNEL_AMONG_OTHERS(SYS_socket, domain, type, protocol);
+    long fd = KERNEL_AMONG_OTHERS(SYS_socket, domain, type & ~SOCK_CLOEXEC, protocol);
     if (fd < 0)
         return fd;
     struct descriptor *socket = opened(fd, NEW_SOCKET);
@@ -106,7 +108,7 @@ long accept_client(long fd, void *address, unsigned *length, long flags)
     long client = listener->taken;
     listener->taken = 0;
     if (!client)
-        client = KERNEL_AMONG_OTHERS(SYS_accept4, fd, 0, 0, 0);
+        client = KERNEL_AMONG_OTHERS(SYS_accept4, fd, 0, 0, flags & SOCK_NONBLOCK);
     if (client == -EAGAIN && !listener->waits_not)
         end_of_waiting();
     if (client < 0)
@@ -192,8 +194,86 @@ static bool has_connection(const struct pollfd *asked, long count)
     return count > 0;
 }
 
-long poll_descriptors(struct pollfd *asked, long count, const int64_t *timeout)
+/* ---- where the kernel polls */
+
+/* The kernel said that it has no such call. */
+static bool polls_not;
+
+static long known(long result)
 {
+    polls_not = polls_not || result == -ENOSYS;
+    return result;
+}
+
+void set_waiting(long fd, bool waits_not)
+{
+    if (!polls_not && (fd == 0 || fd >= FIRST_SOCKET))
+        known(KERNEL(SYS_fcntl64, fd, F_SETFL, O_RDWR | (waits_not ? O_NONBLOCK : 0)));
+}
+
+long sleep_until(long clock, long flags, const int64_t *time)
+{
+    long result = polls_not ? -ENOSYS : known(KERNEL_AMONG_OTHERS(SYS_clock_nanosleep_time64, clock, flags, time));
+    return result == -ENOSYS ? 0 : result;
+}
+
+/* The kernel's answer; -ENOSYS where it has none. */
+static long poll_by_kernel(struct pollfd *asked, long count, const int64_t *timeout, const uint64_t *mask)
+{
+    if (polls_not)
+        return -ENOSYS;
+    long ready = known(KERNEL_AMONG_OTHERS(SYS_ppoll_time64, asked, count, timeout));
+    return ready == -EINTR ? end_of_service(timeout, mask) : ready;
+}
+
+static void ask(struct pollfd *asked, long *count, long fd, const fd_set *set, short events)
+{
+    if (!set || !FD_ISSET(fd, set))
+        return;
+    if (*count == 0 || asked[*count - 1].fd != fd)
+        asked[(*count)++] = (struct pollfd){.fd = fd};
+    asked[*count - 1].events |= events;
+}
+
+/* Leaves in a set the descriptors of which one of these is told. Answers how many. */
+static long keep_told(const struct pollfd *asked, long count, fd_set *set, short wanted, short told)
+{
+    long ready = 0;
+    for (long i = 0; set && i < count; i++) {
+        if (!(asked[i].events & wanted))
+            continue;
+        if (asked[i].revents & told)
+            ready++;
+        else
+            FD_CLR(asked[i].fd, set);
+    }
+    return ready;
+}
+
+static long select_by_kernel(long most, fd_set *readable, fd_set *writable, fd_set *special, const int64_t *timeout, const uint64_t *mask)
+{
+    struct pollfd asked[DESCRIPTORS];
+    long count = 0;
+    for (long fd = 0; fd < most && fd < DESCRIPTORS; fd++) {
+        ask(asked, &count, fd, readable, POLLIN);
+        ask(asked, &count, fd, writable, POLLOUT);
+        ask(asked, &count, fd, special, POLLPRI);
+    }
+    for (long i = 0; i < count; i++)
+        if (!descriptor_of(asked[i].fd))
+            return -EBADF;
+    long ready = poll_by_kernel(asked, count, timeout, mask);
+    if (ready < 0)
+        return ready;
+    return keep_told(asked, count, readable, POLLIN, POLLIN | POLLHUP | POLLERR) + keep_told(asked, count, writable, POLLOUT, POLLOUT | POLLERR) +
+           keep_told(asked, count, special, POLLPRI, POLLPRI);
+}
+
+long poll_descriptors(struct pollfd *asked, long count, const int64_t *timeout, const uint64_t *mask)
+{
+    long polled = poll_by_kernel(asked, count, timeout, mask);
+    if (polled != -ENOSYS)
+        return polled;
     long ready = 0;
     bool asks_listeners = !has_connection(asked, count);
     for (long i = 0; i < count; i++) {
@@ -228,8 +308,11 @@ static long keep_ready(long count, fd_set *set, short wanted, bool asks_listener
     return ready;
 }
 
-long select_descriptors(long count, void *readable, void *writable, void *special, const int64_t *timeout)
+long select_descriptors(long count, void *readable, void *writable, void *special, const int64_t *timeout, const uint64_t *mask)
 {
+    long polled = select_by_kernel(count, readable, writable, special, timeout, mask);
+    if (polled != -ENOSYS)
+        return polled;
     bool asks_listeners = !has_connection_in(readable, count) && !has_connection_in(writable, count);
     long reads = keep_ready(count, readable, POLLIN, asks_listeners), writes = keep_ready(count, writable, POLLOUT, asks_listeners);
     long specials = keep_ready(count, special, 0, asks_listeners);
