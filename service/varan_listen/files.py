@@ -1,7 +1,13 @@
 """The files that the command reads: versions, each kept as it was when it was named, and scripts."""
+import contextlib
+import fcntl
+import os
 import pathlib
 import shutil
 import tempfile
+
+# How the names of the folders of copies begin.
+PREFIX = "varan-listen."
 
 
 class Version:
@@ -29,11 +35,42 @@ class Script:
         return [int(it[1]) for it in fields if len(it) == 2 and it[0] == b"hand" and it[1].isdigit()]
 
 
+def lock(folder, how=fcntl.LOCK_EX):
+    """Locks a folder until this process ends, in whatever way, or the lock that it comes to is closed."""
+    held = os.open(folder, os.O_RDONLY | os.O_DIRECTORY | os.O_NOFOLLOW)
+    try:
+        fcntl.flock(held, how)
+    except OSError:
+        os.close(held)
+        raise
+    return held
+
+
+def remove_left():
+    """Removes the folders of processes that were killed."""
+    for folder in pathlib.Path(tempfile.gettempdir()).glob(f"{PREFIX}*"):
+        with contextlib.suppress(OSError):
+            remove_unlocked(folder)
+
+
+def remove_unlocked(folder):
+    """Removes a folder that no process has locked. An empty one stays: it may be of a process that has just begun."""
+    held = lock(folder, fcntl.LOCK_EX | fcntl.LOCK_NB)
+    try:
+        if os.listdir(held):
+            shutil.rmtree(folder)
+    finally:
+        os.close(held)
+
+
 class Files:
-    """The folder of the copies, which is removed in the end."""
+    """The folder of the copies, which is removed in the end. Where a process was killed nobody wants its copies any more, and the next one removes them."""
 
     def __init__(self):
-        self.room = tempfile.TemporaryDirectory(prefix="varan-listen-")
+        remove_left()
+        self.room = tempfile.TemporaryDirectory(prefix=PREFIX)
+        with contextlib.suppress(OSError):
+            lock(self.room.name)
         self.count = 0
 
     def new(self, name):

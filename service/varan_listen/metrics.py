@@ -63,9 +63,9 @@ def rewrites_of(run):
 
 
 def lags_of(run):
-    """How many lines a process that catches up has still to say."""
+    """How many lines a process that catches up has still to say or to take."""
     behind = [it for it in (run.joining, run.serving) if it and it.is_behind]
-    return [(labelled(process="joining" if it is run.joining else "serving"), max(run.said.lines - it.heard_lines, 0)) for it in behind]
+    return [(labelled(process="joining" if it is run.joining else "serving"), run.lag(it)) for it in behind]
 
 
 def memories_of(run):
@@ -87,7 +87,7 @@ def exposition(run, counts):
     yield from family("hand_overs", "gauge", "Planned lengths and hand-overs of the process that serves.", [("", len(run.serving.transcript.hands))])
     yield from family("version", "gauge", "The versions of the process that serves, by role.", versions_of(run))
     yield from family("rewrites", "gauge", "Decisions of rules for a version, as the command last reported them.", rewrites_of(run))
-    yield from family("lag_lines", "gauge", "Lines that a process which catches up has still to say.", lags_of(run))
+    yield from family("lag_lines", "gauge", "Lines that a process which catches up has still to say, or to take where it isn't known what was said.", lags_of(run))
     yield from family("run_ended", "gauge", "1 if the run has ended, and its state is gone: the next client begins one.", [("", int(run.ended.done()))])
     yield from family("transcript_failed", "gauge", "1 where a line of the transcript couldn't be written.", [("", int(run.serving.transcript.has_failed))])
     yield from family("resident_memory_bytes", "gauge", "Memory of the processes.", memories_of(run))

@@ -1,6 +1,6 @@
 """What an operator does with a service. Each operation yields lines that tell of it, and raises Refused where it isn't done.
 
-    status               who leads, who follows, who has ended and how; how much came and was said
+    status               who leads, who follows, who has ended and how; how much came and was said, and the hand-overs of the process that serves
     join FILE [INDEX]    the version FILE joins behind the followers that haven't led, or at this place of the order in which they lead: at 0 it leads
     hand                 the leader gives up the lead to the version that is next in the order, with the next call that is served
     drop INDEX           the version with this number leaves. Where it led, the next one leads
@@ -78,7 +78,7 @@ class Operations:
             raise Refused("the run has ended, and the next client begins one")
         if run.is_joining:
             raise Refused("another version joins or leaves")
-        if not run.is_there(run.serving):
+        if not run.has_caught_up(run.serving):
             raise Refused(run.progress())
         return run
 

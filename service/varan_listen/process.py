@@ -9,6 +9,7 @@ import time
 
 from varan_listen.streams import note
 from varan_listen.transcript import Transcript
+from varan_listen.written import Written
 
 # Bytes that a process which has to catch up is told at once.
 AT_ONCE = 65_536
@@ -26,8 +27,8 @@ def end_with_parent():
 class Process:
     """It is told what came to its run, and the operator's words `hand`, each at its place of what came; and what it says is heard."""
 
-    def __init__(self, process, lineup, transcript, is_behind):
-        self.process, self.lineup, self.transcript, self.is_behind = process, lineup, transcript, is_behind
+    def __init__(self, process, lineup, transcript, written, is_behind):
+        self.process, self.lineup, self.transcript, self.written, self.is_behind = process, lineup, transcript, written, is_behind
         self.versions, self.hands = lineup.versions, lineup.hands
         self.begun = self.arrived = time.monotonic()
         self.fed = self.heard = self.heard_lines = 0  # bytes of what came, bytes and lines of what it said
@@ -38,11 +39,19 @@ class Process:
     @classmethod
     async def begin(cls, command, lineup, transcript, is_behind):
         """Begins the command, in a session of its own, so that Ctrl-C ends varan-listen alone. SIGXFSZ stays ignored in it, as in Python: a file of the most size is a failed write then."""
-        with open(transcript, "xb") if transcript else contextlib.nullcontext() as told:
+        file = os.open(transcript, os.O_WRONLY | os.O_CREAT | os.O_EXCL, 0o666) if transcript else os.dup(2)
+        reader, writer = os.pipe()
+        try:
             process = await asyncio.create_subprocess_exec(
-                *command, stdin=asyncio.subprocess.PIPE, stdout=asyncio.subprocess.PIPE, stderr=told,
+                *command, stdin=asyncio.subprocess.PIPE, stdout=asyncio.subprocess.PIPE, stderr=writer,
                 start_new_session=True, restore_signals=False, preexec_fn=end_with_parent)
-        return cls(process, lineup, Transcript(transcript, len(lineup.versions)), is_behind)
+        except OSError:
+            os.close(reader)
+            os.close(file)
+            raise
+        finally:
+            os.close(writer)
+        return cls(process, lineup, Transcript(transcript, len(lineup.versions)), Written(reader, file), is_behind)
 
     def write(self, piece):
         if not self.process.stdin.is_closing():
@@ -98,7 +107,7 @@ class Process:
         """It has caught up."""
         self.is_behind, self.arrived = False, time.monotonic()
         self.transcript.arrive()
-        note(f"caught up after {self.arrived - self.begun:.3f} s, with {self.heard_lines} lines of the guests")
+        note(f"caught up after {self.arrived - self.begun:.3f} s, with {self.written.taken} lines taken")
 
     def has_served(self, seconds):
         """Whether it has caught up, so many seconds ago at least."""
@@ -114,7 +123,7 @@ class Process:
         return [f"{number} {self.versions[number]} {role}" for number, role in enumerate(self.transcript.roles(len(self.versions)))]
 
     def last_words(self):
-        """The last line of its transcript, in which a version has the operator's name."""
+        """Why it ended, by its transcript, in which a version has the operator's name."""
         words = self.transcript.last_words()
         for version in self.versions:
             words = words.replace(version.copy, version.name)

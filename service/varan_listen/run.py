@@ -9,14 +9,15 @@ import time
 
 from varan_listen.past import Past
 from varan_listen.process import Joining, Process
-from varan_listen.streams import MOST_WRITTEN, note
+from varan_listen.streams import MOST_WRITTEN, PATIENCE, note
+from varan_listen.written import SECOND
 
 # Bytes of an arrival, as many as a script may say.
 MOST_BYTES = 2000
 # How often in a row a command that was killed is begun anew without having said more.
 MOST_TRIES = 3
-# Nanoseconds: a second; the step of the time that is told; and the latest time that a line can tell, of the year 2106.
-SECOND, TIME_STEP = 1_000_000_000, 1_000_000
+# Nanoseconds: the step of the time that is told; and the latest time that a line can tell, of the year 2106.
+TIME_STEP = 1_000_000
 MOST_TIME = 4_294_967_296 * SECOND - 1
 # Seconds: between two looks at a process that joins; in which its followers take what came last; and in which it has to come nearer.
 TICK, SETTLING, STANDING = 0.05, 0.2, 60
@@ -28,12 +29,14 @@ class Run:
 
     def __init__(self, begin, console, idle, counts):
         self.begin, self.console, self.idle, self.counts = begin, console, idle, counts
+        self.patience = idle or PATIENCE
         self.told, self.said = Past("what came"), Past("what the guests said")
         self.serving = self.joining = None
         self.is_joining = False
         self.ended = asyncio.get_running_loop().create_future()  # the status
         self.restarts = self.tries = self.said_before = 0
         self.time = 0  # that was told last
+        self.timer = None  # at which the time is to be told, since a call waits for it
         self.count = self.gone = 0  # of the clients that came, and of those that came to a run which this one goes on with
         self.is_past = False  # what the guests say was said in that run
         self.waiting, self.accepted, self.accepts = {}, {}, 0
@@ -59,6 +62,7 @@ class Run:
         self.follow(self.serving)
 
     def follow(self, process):
+        process.written.follow(lambda: self.wait(process), lambda: self.look(process))
         process.feeding = asyncio.create_task(process.feed(self.told))
         self.tasks.append(asyncio.create_task(self.hear(process)))
 
@@ -66,12 +70,14 @@ class Run:
         """Takes what a process says, to its end. The process was killed where a line is cut off."""
         try:
             async for line in process.process.stdout:
+                process.written.take()
                 if process not in (self.serving, self.joining) or not line.endswith(b"\n"):
                     break
                 self.take(process, line)
         except Exception as fault:  # whatever it is: nobody would hear the process any more
             process.end(str(fault) or repr(fault))
         status = await process.process.wait()
+        process.written.close()
         if process is self.joining:
             self.give_up(f"the command ended with status {status}: {process.last_words()}")
         elif process is self.serving:
@@ -103,9 +109,18 @@ class Run:
         """Whether a process was told all that came, and has said all that was said."""
         return process.heard >= self.said.size and process.fed == self.told.size and process.handed == len(process.hands)
 
+    def has_caught_up(self, process):
+        """Whether a process is there. What was said in a run that this one goes on with isn't known: the process has taken all that came, then."""
+        return self.is_there(process) and not (process.is_behind and self.is_past and self.lag(process))
+
+    def lag(self, process):
+        """How many lines a process that catches up has still to say, or to take where it isn't known what was said."""
+        lines, done = (self.told.lines, process.written.taken) if self.is_past else (self.said.lines, process.heard_lines)
+        return max(lines - done, 0)
+
     def look(self, process):
         """Whether a process has caught up. One that joins serves from now on, if no version of it has ended meanwhile."""
-        if not self.is_there(process):
+        if not self.has_caught_up(process):
             return
         if process is self.joining and process.has_settled and process.fault is None:
             if process.lineup.is_trial:
@@ -114,7 +129,7 @@ class Run:
                 process.end(ended)
             else:
                 self.switch()
-        if process is self.serving and process.is_behind and not self.is_past:
+        if process is self.serving and process.is_behind:
             process.arrive()
 
     async def go_on(self, status):
@@ -180,6 +195,7 @@ class Run:
         old.end("another one serves in its place")
         while self.serving.ahead:
             self.say(self.serving.ahead.popleft())
+        self.wait(self.serving)
         self.counts.switches += 1
         note(f"these versions serve from now on: {' '.join(map(str, self.serving.versions))}")
         self.serving.outcome.set_result(None)
@@ -197,9 +213,27 @@ class Run:
         """Tells what came, and before it the time, unless that was told less than a step ago. A host's clock that is set back tells no time until it is later again."""
         now = min(time.time_ns(), MOST_TIME)
         if now - self.time >= TIME_STEP:
-            self.time = now
-            self.tell_line(f"time {now // SECOND} {now % SECOND}")
+            self.tell_time(now)
         self.tell_line(line)
+
+    def tell_time(self, now):
+        self.time = now
+        self.tell_line(f"time {now // SECOND} {now % SECOND}")
+
+    def wait(self, process):
+        """A call of the process waits up to a time, which is told then: also where the host's clock is set back meanwhile. One that was told later ends the wait once the process takes it:
+        so the waits that a process says again which catches up are past."""
+        wait = process.written.wait
+        if process is not self.serving or wait is None:
+            return
+        self.stop_waiting()
+        if wait >= self.time:
+            left = wait - max(time.time_ns(), self.time)
+            self.timer = asyncio.get_running_loop().call_later(left / SECOND, lambda: self.tell_time(min(max(time.time_ns(), wait), MOST_TIME)))
+
+    def stop_waiting(self):
+        if self.timer is not None:
+            self.timer.cancel()
 
     def tell_line(self, line):
         line = line.encode() + b"\n"
@@ -234,12 +268,13 @@ class Run:
         self.tell(f"end {number}")
 
     async def read(self, reader):
-        """What a client sends next; nothing at its end, or where it is silent too long. The time in which a process catches up doesn't count: the client may wait for an answer."""
+        """What a client sends next; nothing at its end, or where it is silent too long. The time in which a process catches up doesn't count: the client may wait for an answer.
+        Where clients may be silent, none may any more once no more come."""
         while True:
             try:
-                return await asyncio.wait_for(reader.read(MOST_BYTES), self.idle)
+                return await asyncio.wait_for(reader.read(MOST_BYTES), self.patience)
             except asyncio.TimeoutError:
-                if reader.exception() or self.serving.has_served(self.idle):
+                if reader.exception() or ((self.idle or not self.takes) and self.serving.has_served(self.patience)):
                     return b""
 
     def accept(self, number):
@@ -262,7 +297,7 @@ class Run:
         if client.got >= MOST_WRITTEN:
             is_cut = True
             note(f"client {number} got {client.got:,} bytes, the most that a run writes to a client, and is reset")
-        closer = asyncio.create_task(client.cut(self.idle) if is_cut else client.close(self.idle))
+        closer = asyncio.create_task(client.cut(self.patience) if is_cut else client.close(self.patience))
         self.closers.add(closer)
         closer.add_done_callback(self.closers.discard)
 
@@ -287,8 +322,9 @@ class Run:
     def progress(self):
         """How far the process is that has still to catch up; or None."""
         for process in filter(None, (self.joining, self.serving)):
-            if process.is_behind and not (process is self.serving and self.is_there(process)):
-                return f"catching up: told {process.fed * 100 // (self.told.size or 1)} % of {self.told.lines} lines, heard {process.heard_lines} of {self.said.lines}"
+            if process.is_behind and not (process is self.serving and self.has_caught_up(process)):
+                done = f"took {process.written.taken}" if self.is_past else f"heard {process.heard_lines} of {self.said.lines}"
+                return f"catching up: told {process.fed * 100 // (self.told.size or 1)} % of {self.told.lines} lines, {done}"
         return None
 
     def tell_news(self, process):
@@ -297,13 +333,25 @@ class Run:
         for it in news if not process.is_behind else ():
             note(it)
 
+    def tell_end(self, status):
+        """Says what isn't said yet of how versions ended, but for those that exited; and the last line of a command that failed, where that is in a file of its own."""
+        process = self.serving
+        words = process.last_words()
+        why = f"the command ended with status {status}: {words}" if status > 0 and words else ""
+        news = () if process.is_behind else process.transcript.take_news()
+        for it in news:
+            if it not in why and " ended: exited " not in it:
+                note(it)
+        if why:
+            note(why)
+
     async def watch(self):
         """Each second: a command that was begun anew says how far it is; and each client that was accepted has to stand in the transcript."""
         while True:
             await asyncio.sleep(1)
             process, accepts = self.serving, self.accepts
             self.tell_news(process)
-            if not self.is_there(process):
+            if not self.has_caught_up(process):
                 if process.is_behind:
                     note(self.progress())
             elif process.transcript.lacks(accepts):
@@ -314,8 +362,12 @@ class Run:
         watching = asyncio.create_task(self.watch())
         status = await self.ended
         watching.cancel()
+        self.tell_end(status)
+        self.stop_waiting()
         self.takes = False
         self.serving.process.stdin.close()
+        if status == 0 and self.serving.written.has_failed:
+            status = UNWRITTEN
         if status == UNWRITTEN:
             note("a line of a transcript couldn't be written: the transcript ends there")
         at_limit = self.serving.transcript.has_met_limit()

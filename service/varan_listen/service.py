@@ -6,7 +6,7 @@ import time
 from varan_listen.lineup import Lineup
 from varan_listen.metrics import Counts
 from varan_listen.run import UNWRITTEN, Run
-from varan_listen.streams import Console, note
+from varan_listen.streams import PATIENCE, Console, note
 from varan_listen.transcript import BEHIND
 
 UNBEGUN = 2
@@ -17,6 +17,7 @@ class Service:
 
     def __init__(self, given, files, has_console):
         self.given, self.files = given, files
+        self.patience = given.idle or PATIENCE
         self.counts = Counts()
         self.console = Console(has_console)
         self.script = files.script_at(given.script)
@@ -95,7 +96,7 @@ class Service:
                     await self.place(client)
                 except OSError as fault:
                     self.fail(fault)
-                    await client.close(self.given.idle)
+                    await client.close(self.patience)
             if self.is_ending:
                 self.run.end_clients()
 
@@ -114,7 +115,7 @@ class Service:
             await self.leave(run, left)
         else:
             self.over.set()
-            await asyncio.gather(*(client.close(self.given.idle) for client in left))
+            await asyncio.gather(*(client.close(self.patience) for client in left))
         return status
 
     async def leave(self, run, clients):
@@ -126,7 +127,7 @@ class Service:
             client.was_left = not run.has_accepted
         if staying:
             note(f"{len(staying)} clients are closed: no guest accepts them at port {', '.join(sorted({str(client.port) for client in staying}))}")
-        await asyncio.gather(self.come(*going), *(client.close(self.given.idle) for client in staying))
+        await asyncio.gather(self.come(*going), *(client.close(self.patience) for client in staying))
 
     async def begin_anew(self):
         """Clients come to a new run from now on, with the files of the command line as they are now; where none can begin, to this one still."""
@@ -146,5 +147,5 @@ class Service:
         status = 0
         for ending in self.endings:
             status = await ending or status
-        await self.console.close(self.given.idle)
+        await self.console.close(self.patience)
         return status or (UNWRITTEN if self.console.failed else UNBEGUN if self.failed else 0)

@@ -16,6 +16,8 @@ from varan_listen.metrics import Counts
 # Bytes that a run writes to a client at most, and bytes of the console that may wait to be read.
 MOST_WRITTEN = 1_048_576
 MOST_WAITING = 262_144
+# Seconds in which what was written is taken at the end, where clients may be silent as long as they like.
+PATIENCE = 10
 
 
 def note(text):

@@ -1,4 +1,5 @@
 """What a transcript says: of the process that writes it who leads, who has ended and how, and where the lead was handed over; and of one that a run left what came in it."""
+import os
 import re
 
 ARRIVALS = (b"connect", b"data", b"end", b"line", b"input", b"time")
@@ -8,6 +9,9 @@ OVER = (b"end clients", b"end input")
 BEHIND = ".behind"
 SAID = re.compile(rb"(?m)^(?:(connect) \d+|hand (\d+)|# (\d+ of \d+ calls are made)|# version (\d) (?:leads from event (\d+)|rewrites (\d+) at .*|ended: (.*)))$")
 LIMITS = ("fault calls", "fault budget")
+# The lines behind the one that tells why the process ended, and bytes that have them all.
+UNTAKEN = b"# not taken: "
+TAIL = 1_048_576
 
 
 class Transcript:
@@ -104,8 +108,12 @@ class Transcript:
             self.path = self.path.rename(self.path.with_name(self.path.name.removesuffix(BEHIND)))
 
     def last_words(self):
-        """Its last line."""
-        return self.path.read_bytes().strip().rpartition(b"\n")[2].decode(errors="replace") if self.path else ""
+        """Its last line, but for what wasn't taken; nothing where it isn't a file of its own."""
+        if self.reader is None:
+            return ""
+        file = self.reader.fileno()
+        lines = os.pread(file, TAIL, max(os.fstat(file).st_size - TAIL, 0)).splitlines()
+        return next((line.decode(errors="replace") for line in reversed(lines) if not line.startswith(UNTAKEN)), "")
 
     def close(self):
         if self.reader is not None:
