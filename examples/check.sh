@@ -400,11 +400,11 @@ row 0 expected/inspected_fault inspect --script scripts/clients --stamp 60 "$wor
 # Two programs of Debian, each with its bug and with Debian's patch: alone, and the patched one after the other.
 cd "$here/strangers"
 large=(--memory 4194304 --budget 100000000)
-led='0 exited 0 seen 334 led 0-334 rewrites 0'
-broke='0 fault load 100 seen 180 led 0-180 rewrites 0'
+led='0 exited 0 seen 335 led 0-335 rewrites 0'
+broke='0 fault load 100 seen 181 led 0-181 rewrites 0'
 served 0 expected/mini_httpd "$led" "${large[@]}" --script scripts/mini_httpd built/mini_httpd_debian
 served 1 expected/mini_httpd_alone "$broke" "${large[@]}" --script scripts/mini_httpd built/mini_httpd_original
-served 0 expected/mini_httpd "$broke"$'\n1 exited 0 seen 334 led 180-334 rewrites 0' "${large[@]}" \
+served 0 expected/mini_httpd "$broke"$'\n1 exited 0 seen 335 led 181-335 rewrites 0' "${large[@]}" \
     --script scripts/mini_httpd built/mini_httpd_original built/mini_httpd_debian
 led='0 exited 0 seen 71 led 0-71 rewrites 0'
 broke='0 fault store 100 seen 40 led 0-40 rewrites 0'

@@ -1,5 +1,5 @@
 #!/usr/bin/env bash
-# Builds the versions of the keeper by the stock compiler and picolibc, and says which of them the repository has otherwise. It changes nothing there.
+# Builds the versions of the keeper and of the loop by the stock compiler and picolibc, and says which of them the repository has otherwise. It changes nothing there.
 # build.sh --write: puts them into built/.
 # Status 1: a version is otherwise. 2: other arguments. 3: the compiler or the library isn't on this machine (../guests/cc).
 set -eu
@@ -11,11 +11,11 @@ fi
 made=$(mktemp -d)
 trap 'rm -rf "$made"' EXIT
 status=0
-for version in 1 2 3; do
-    ../guests/cc -s keeper.c "../guests/store_$version.c" -o "$made/keeper_$version"
+for built in keeper_1 keeper_2 keeper_3 loop_1 loop_2; do
+    ../guests/cc -s "${built%_*}.c" "../guests/store_${built#*_}.c" -o "$made/$built"
     if [ "$*" = --write ]; then
-        cp "$made/keeper_$version" built
+        cp "$made/$built" built
     fi
-    cmp "$made/keeper_$version" "built/keeper_$version" || status=1
+    cmp "$made/$built" "built/$built" || status=1
 done
 exit $status

@@ -394,6 +394,29 @@ refused() {
     is "$(grep '^# varan: ' "$work/refused")" "# varan: input standard input: line $2" "the cause of a line that is refused"
 }
 
+# One loop for all its clients. Ten are silent beside twenty that ask, and the update faults in the middle of a request; the silent ones are let go in the server's time. At SIGTERM one more is
+# silent, and then the server ends by itself, and writes how many requests there were.
+a_loop() {
+    local last options=(--idle 0) words=(--script "$work/loop_setup") versions=("$here/built/loop_2" "$here/built/loop_1")
+    { echo varan-script 5; echo "clock $(date +%s) 0 0"; echo arg 5; } >"$work/loop_setup"
+    begun loop "${versions[@]}" || return 0
+    rows=$((rows + 1))
+    "$here/many.py" "$port" 10 20 5 5 || bad "the clients of one loop"
+    exec {last}<>"/dev/tcp/127.0.0.1/$port"
+    until_it is_accepted 31 "$work/loop" || return 0
+    ended loop
+    is "$(cat <&"$last")" late "the client that is silent at the end"
+    exec {last}<&-
+    is "$(cat "$work/console")" "206 requests" "the requests"
+    is "$(cat "$work/loop"/* | grep -c '^# wait')" 0 "waits that stand in the transcript"
+    again "$work/loop"/* $'0 fault load 100\n1 exited 0' "${versions[@]}"
+}
+
+# is_accepted N FOLDER: client N is accepted, by the transcript of the folder.
+is_accepted() {
+    [ "$(cat "$2"/* | grep -c '^# [0-9]* 100 202 .* = [0-9]* :$')" -gt "$1" ]
+}
+
 # A line that is refused, of each cause. Empty lines and comments count.
 refused_lines() {
     refused 'connect 8080\nhello\n' "2 word"
@@ -406,13 +429,13 @@ refused_lines() {
     refused '# one client\nconnect 8080\nend 0' "3 cut"
 }
 
-# A server of Debian with its bug, and behind it the one with Debian's patch.
+# A server of Debian with its bug, and behind it the one with Debian's patch. At SIGTERM its handler exits with 1, as under Linux.
 a_stranger() {
     local strangers=$here/../strangers clients expected inner=18101 words=(--memory 4194304 --script "$work/stranger_setup") largest=("${largest[@]}" --memory 4194304)
     clients=$strangers/scripts/mini_httpd
     expected=$strangers/expected/mini_httpd
     { echo varan-script 5; grep '^\(arg\|file\) ' "$clients"; } >"$work/stranger_setup"
-    in_turn stranger $'0 fault load 100\n1 exited 0' "$strangers/built/mini_httpd_original" "$strangers/built/mini_httpd_debian"
+    in_turn stranger $'0 fault load 100\n1 exited 1' "$strangers/built/mini_httpd_original" "$strangers/built/mini_httpd_debian"
 }
 
 many_clients() {
@@ -428,6 +451,7 @@ many_clients() {
     anew
     while_they_wait
     other_texts
+    a_loop
     refused_lines
     a_stranger
     # versions that join and leave, and what can break

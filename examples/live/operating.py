@@ -3,8 +3,8 @@
 
     operating.py PROGRAM
 
-The service is keeper.c behind ../../service/varan-listen. It counts the requests of all clients, so one that is lost or done twice shows; dated.s tells the time. Each row that doesn't hold is
-printed; the last line has how many there were, how many were wrong, and the longest wait of a client. Status 1 where one was wrong.
+The service is keeper.c behind ../../service/varan-listen. It counts the requests of all clients, so one that is lost or done twice shows; so does loop.c, which serves all at once; dated.s tells
+the time. Each row that doesn't hold is printed; the last line has how many there were, how many were wrong, and the longest wait of a client. Status 1 where one was wrong.
 """
 import os
 import pathlib
@@ -21,12 +21,15 @@ import time
 
 HERE = pathlib.Path(__file__).resolve().parent
 KEEPER = {number: str(HERE / f"built/keeper_{number}") for number in (1, 2, 3)}
+LOOP = str(HERE / "built/loop_1")
 SECONDS = 300
 # Seconds that a client may be silent, and the words for one that is silent while something else is done.
 IDLE = 3
 PATIENT = ["--idle", str(SECONDS)]
 # Seconds between two requests of a client that asks again and again, and how often as long as its last answer took: so a process that joins comes nearer also where the machine is slow.
 PAUSE, PAUSES = 0.05, 4
+# The words for one whose clients may be silent, and seconds after which the server itself lets them go.
+ENDLESS, LET_GO = ["--idle", "0"], 4
 # Nanoseconds: a second, and how long ago the time may have been told that a client gets.
 SECOND, TIME_STEP = 1_000_000_000, 1_000_000
 MOST_WRITTEN = 1_048_576
@@ -68,6 +71,13 @@ def until(is_so, what):
     return found
 
 
+def stop(process):
+    """Stops a process, with all its threads: it takes in nothing more until it goes on."""
+    os.kill(process, signal.SIGSTOP)
+    tasks = pathlib.Path(f"/proc/{process}/task")
+    until(lambda: all((task / "stat").read_text().rpartition(")")[2].split()[0] == "T" for task in tasks.iterdir()), "a stopped process")
+
+
 def program_of(process):
     """The file that a process runs; None where it has ended, or runs none yet."""
     try:
@@ -90,6 +100,7 @@ class Connection:
     def __init__(self, port):
         self.socket = socket.create_connection(("127.0.0.1", port), SECONDS)
         self.lines = self.socket.makefile("r")
+        self.begun = time.monotonic()
 
     def send(self, *requests):
         self.socket.sendall("".join(request + "\n" for request in requests).encode())
@@ -235,7 +246,7 @@ def joining(rows, program):
     waiting = threading.Thread(target=lambda: answers.extend(service.operate(f"join {KEEPER[3]}")))
     waiting.start()
     new = until(lambda: [it for it in service.children() if it != serving], "a process that joins")[0]
-    os.kill(new, signal.SIGSTOP)
+    stop(new)
     rows.holds(service.operate(f"join {KEEPER[3]}")[-1].startswith("no: "), "a second one at once", "it joins")
     time.sleep(1.5)
     os.kill(new, signal.SIGCONT)
@@ -250,12 +261,18 @@ def joining(rows, program):
     rows.same(sum(it.name.endswith(".behind") for it in service.transcripts.iterdir()), 3, "transcripts of processes that never caught up")
 
 
-def killed_command(rows, program):
-    """The command is killed, twice, and then catching up takes longer than a client may be silent: it is held before it is told anything."""
+def held_command(program):
+    """A folder with a command that is held while a file is there, and the file's path."""
     folder = pathlib.Path(tempfile.mkdtemp(dir=Service.room))
-    held, hold = folder / "held", folder / "hold"
+    held = folder / "held"
     held.write_text(HELD % program)
     held.chmod(0o755)
+    return folder, held, folder / "hold"
+
+
+def killed_command(rows, program):
+    """The command is killed, twice, and then catching up takes longer than a client may be silent: it is held before it is told anything."""
+    folder, held, hold = held_command(program)
     service = Service(program, KEEPER[2], KEEPER[1], command=held, folder=folder)
     service.ask("put colour green", "say hello", *["get colour"] * 200)
     asking = Asking(service.port)
@@ -288,7 +305,7 @@ def killed_all(rows, program):
     rows.same((counts[2], *open_one.ask("size")), ("3", "4"), "the counts before it is killed")
     until(lambda: (service.folder / "console").read_text() == "hello\n", "the console, which is written beside the answers")
     command = service.serving()
-    os.kill(command, signal.SIGSTOP)
+    stop(command)
     service.process.kill()
     service.process.wait()
     until(lambda: not pathlib.Path(f"/proc/{command}").exists() or " Z " in pathlib.Path(f"/proc/{command}/stat").read_text(), "the command ends with varan-listen")
@@ -313,6 +330,61 @@ def killed_all(rows, program):
     rows.same(ended.end(), 0, "its status")
     absent = subprocess.run([HERE / "../../service/varan-listen", "--resume", service.folder / "nothing", "1", "--", program, "serve", "--clients", KEEPER[1]], stderr=subprocess.PIPE)
     rows.holds(absent.returncode == 2 and b"No such file" in absent.stderr, "a transcript that isn't there", absent)
+
+
+def resuming(rows, program):
+    """A service that is resumed says when it has caught up, before any client comes; until then nothing joins. The command is held before it is told anything."""
+    for version, options in ((KEEPER[1], PATIENT), (LOOP, ENDLESS)):
+        folder, held, hold = held_command(program)
+        service = Service(program, version, options=options)
+        silent = service.connect()
+        rows.same(silent.ask("put colour green", "size"), ["kept", "2"], "the past")
+        transcript = service.transcript()
+        service.process.kill()
+        service.process.wait()
+        hold.touch()
+        resumed = Service(program, version, command=held, options=[*options, "--resume", transcript], folder=folder)
+        process = until(lambda: [it for it in resumed.begun() if is_still(it)], "a command that stands still")[0]
+        hold.unlink()
+        lacks = transcript.read_text().count("\n")  # a line more of the script, and one less for the client's end
+        is_behind(rows, resumed, version, lacks)
+        os.kill(process, signal.SIGCONT)
+        until(lambda: "caught up" in resumed.notes(), "it catches up with nobody there")
+        rows.holds(f" s, with {lacks} lines taken\n" in resumed.notes(), "the lines that it has taken then", resumed.notes())
+        rows.same(resumed.transcript().suffix, "", "the transcript of a service that has caught up")
+        rows.same(resumed.operate(f"join {version}")[-1], "ok", "a version joins it before any client comes")
+        rows.same(resumed.ask("get colour", "size"), ["green", "4"], "the state of a service that has caught up")
+        rows.same(resumed.end(), 0, "its status")
+
+
+def is_behind(rows, service, version, lacks):
+    """What the operator is told of a service that was resumed, and has taken none of so many lines."""
+    rows.same(service.transcript().suffix, ".behind", "the transcript of a service that has taken nothing")
+    rows.holds(service.operate("status")[-2].endswith(" lines, took 0"), "the status of a service that has taken nothing", service.operate("status"))
+    rows.same(samples(rows, "\n".join(service.operate("metrics")[:-1])).get('varan_lag_lines{process="serving"}'), lacks, "the lines that it lacks")
+    rows.holds(service.operate(f"join {version}")[-1].startswith("no: catching up: "), "a version that joins before it has caught up", "it joins")
+
+
+def left_copies(rows, program):
+    """The copies of versions go with the service; those of one that was killed as the next one begins, and none of one that serves."""
+    room = pathlib.Path(tempfile.mkdtemp(dir=Service.room))
+
+    def begun():
+        before = set(room.iterdir())
+        service = Service(program, KEEPER[1], env=os.environ | {"TMPDIR": str(room)})
+        return service, before, set(room.iterdir())
+
+    killed, _, first = begun()
+    killed.process.kill()
+    killed.process.wait()
+    one, left, second = begun()
+    other, _, third = begun()
+    rows.same((len(first), left), (1, first), "the copies of a service that was killed")
+    rows.same((len(second), len(second & first)), (1, 0), "the copies once the next one has begun")
+    rows.same((len(third), third & second), (2, second), "the copies of two services at once")
+    os.kill(one.serving(), signal.SIGKILL)
+    rows.same(one.ask("size"), ["1"], "a command that is begun anew beside another service")
+    rows.same((one.end(), other.end(), list(room.iterdir())), (0, 0, []), "the copies in the end")
 
 
 def is_shown(service, line):
@@ -346,9 +418,10 @@ def handing(rows, program):
     rows.same(spans_again(program, service, KEEPER[1], KEEPER[3]), spans_told(service), "what each version led, by the run of the transcript")
     killed_once(service, asking)
     rows.same(service.roles(), [(KEEPER[1], "leads"), (KEEPER[3], "follows")], "who leads once the command was begun anew after eight")
-    rows.same(hands_of(service), 8, "the hand-overs of its transcript")
+    rows.same((hands_of(service), *hands_told(rows, service)), (8, 8, 8), "the hand-overs of its transcript, as the status and the metrics have them")
 
     rows.same(service.operate("drop 0")[-1], "ok", "a version that led leaves")
+    rows.same(hands_told(rows, service), (0, 0), "the hand-overs of a process in which there were none")
     rows.same(service.operate(f"join {KEEPER[1]}")[-1], "ok", "and joins")
     rows.same(handed(service, 1), [(KEEPER[3], "follows"), (KEEPER[1], "leads")], "who leads after the first hand-over from then on")
     killed_once(service, asking)
@@ -371,6 +444,12 @@ def handing(rows, program):
 def hands_of(service):
     """How many hand-overs the transcript of the process that serves has."""
     return sum(it.startswith("hand ") for it in service.transcript().read_text().splitlines())
+
+
+def hands_told(rows, service):
+    """The same by the status and by the metrics."""
+    found = samples(rows, "\n".join(service.operate("metrics")[:-1]))
+    return int(service.operate("status")[0].rpartition(" hands ")[2]), found.get("varan_hand_overs")
 
 
 def handed(service, number):
@@ -426,6 +505,33 @@ def falling_back(rows, program):
     rows.same(service.operate("hand"), ["no: no other version follows"], "a hand-over once the other version has ended")
     client.close()
     rows.same(service.end(), 0, "the status after a break")
+
+
+def failing(rows, program):
+    """The operator is told why a run ended that a client's request broke, also where others came that it didn't take; and why one can't begin, or go on."""
+    service = Service(program, KEEPER[2], options=PATIENT)
+    client = service.connect()
+    rows.same(client.ask("put colour green", "get colour", "drop colour"), ["kept", "green", "dropped"], "the past")
+    transcript, serving, status = service.transcript(), service.serving(), service.operate("status")[0]
+    stop(serving)
+    client.send("get size")
+    until(lambda: service.operate("status")[0] != status, "the request at which it breaks")
+    other = service.connect()
+    until(lambda: service.operate("status")[0].startswith("clients 2 "), "a client behind it")
+    os.kill(serving, signal.SIGCONT)
+    rows.same((client.lines.readline(), *other.ask("size")), ("", "1"), "the client whose request broke the run, and the one behind it, in the next run")
+    rows.holds("\n# not taken: " in transcript.read_text(), "what wasn't taken stands in the transcript", transcript.read_text())
+    broke = "# varan-listen: the command ended with status 1: # version 0 ended: fault load 100 "
+    rows.holds(broke in service.notes(), "the operator is told why the run ended", service.notes())
+    other.close()
+    rows.same(service.end(), 1, "the status, with a run that broke")
+
+    for options, words, status, why in (
+            (["--resume", transcript], [], 1, broke),
+            ([], ["--memory", "131072"], 4, f"# varan-listen: the command ended with status 4: # varan: input {KEEPER[2]}: no room 0\n")):
+        service = Service(program, KEEPER[2], options=options, words=words)
+        rows.same(service.process.wait(SECONDS), status, f"the status with {options or words}")
+        rows.holds(why in service.notes(), f"the operator is told why, with {options or words}", service.notes())
 
 
 def reloading(rows, program):
@@ -609,6 +715,52 @@ def asked_time(rows, client, what):
     return told, answer
 
 
+def one_loop(rows, program):
+    """A server with one loop lets silent clients go in its time, whatever becomes of the command meanwhile. While nobody is there nothing is told."""
+    folder = pathlib.Path(tempfile.mkdtemp(dir=Service.room))
+    script = folder / "script"
+    script.write_text(f"varan-script 5\nclock {int(time.time())} 0 0\narg {LET_GO}\n")
+    words = ["--script", script]
+    service = Service(program, LOOP, options=ENDLESS, words=words, folder=folder)
+    silent = service.connect()
+    rows.same(service.ask("put colour green"), ["kept"], "a client beside a silent one")
+    is_let_go(rows, silent, "a silent client")
+    lines = service.operate("status")[0]
+    time.sleep(1.5)
+    rows.same(service.operate("status")[0], lines, "what came while nobody is there")
+
+    silent = service.connect()
+    rows.same(service.ask("get colour"), ["green"], "the next client beside a silent one")
+    os.kill(service.serving(), signal.SIGKILL)
+    is_let_go(rows, silent, "a silent client of a command that is killed")
+    silent = service.connect()
+    rows.same(service.operate(f"join {LOOP} 0")[-1], "ok", "a version joins")
+    is_let_go(rows, silent, "a silent client of a version that joins")
+    rows.same(service.ask("size"), ["3"], "the requests")
+    rows.same([line for line in service.transcript().read_text().splitlines() if "wait" in line], [], "what stands of waits in the transcript")
+
+    transcript = service.transcript()
+    service.process.kill()
+    service.process.wait()
+    resumed = Service(program, LOOP, LOOP, options=[*ENDLESS, "--resume", transcript], folder=folder)
+    until(lambda: "caught up" in resumed.notes(), "it catches up")
+    silent = resumed.connect()
+    rows.same(resumed.ask("get colour", "size"), ["green", "5"], "the state of a service that was resumed")
+    is_let_go(rows, silent, "a silent client of a service that was resumed")
+    silent = resumed.connect()
+    rows.same(resumed.ask("size"), ["6"], "a client beside one that is silent at the end")
+    rows.same(resumed.end(), 0, "the status, with a silent client at the end")
+    rows.same(silent.lines.readline(), "late\n", "a client that is silent at the end")
+    rows.same((folder / "console").read_text(), "6 requests\n", "what the server writes in the end")
+
+
+def is_let_go(rows, client, what):
+    """The client gets a line, and no more, after the server's time; the server's clock has whole seconds."""
+    rows.same((client.lines.readline(), client.lines.readline()), ("late\n", ""), what)
+    took = time.monotonic() - client.begun
+    rows.holds(LET_GO - 1.5 <= took < LET_GO * 5, f"{what}, in its time", took)
+
+
 def unheard_port(rows, program):
     """A client at a port where no guest listens."""
     for each in ((), ("--each", "1")):
@@ -648,6 +800,19 @@ def unread_console(rows, program):
     rows.same(service.end(), 6, "the status, with a console that nobody reads")
     rows.holds("bytes wait to be read" in service.notes(), "the operator is told of it", service.notes())
     os.close(reader)
+
+
+def made_folder(rows, program):
+    """The folder of transcripts is made, for this user alone; what is no folder is named."""
+    folder = pathlib.Path(tempfile.mkdtemp(dir=Service.room))
+    for path, status, told in ((folder / "new", 0, ""), (folder / "no/new", 2, "No such file or directory"), (HERE / "operating.py", 2, "File exists")):
+        words = ["--transcripts", path, str(free_port()), "--", program, "serve", "--clients", KEEPER[1]]
+        service = subprocess.Popen([HERE / "../../service/varan-listen", *words], stderr=subprocess.PIPE, text=True)
+        started.append(service)
+        until(lambda: service.poll() is not None or path.is_dir() and list(path.iterdir()), "a transcript")
+        service.terminate()
+        rows.same((service.wait(SECONDS), service.stderr.read()), (status, f"# varan-listen: {path}: {told}\n" if told else ""), f"the status, with the folder {path}")
+    rows.same([it.stat().st_mode & 0o777 for it in folder.iterdir()], [0o700], "the rights of the folder")
 
 
 def full_transcript(rows, program):
@@ -699,7 +864,7 @@ def received(client):
 
 
 started = []
-TRIED = (joining, handing, falling_back, reloading, permitted, told_metrics, killed_command, killed_all, real_time, nearly_all_clients, unheard_port, closed_console, unread_console, full_transcript, cut_answers)
+TRIED = (joining, handing, falling_back, failing, reloading, permitted, told_metrics, killed_command, killed_all, resuming, left_copies, real_time, one_loop, nearly_all_clients, unheard_port, closed_console, unread_console, made_folder, full_transcript, cut_answers)
 
 
 def main():
