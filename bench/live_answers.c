@@ -2,6 +2,7 @@
  * It ends once no more clients come and all are closed.
  *
  *     live_answers HEX     the answer's bytes
+ *     live_answers         each client gets what it sends, and stays until it has left
  */
 #include <stdbool.h>
 #include <stdio.h>
@@ -29,15 +30,17 @@ int main(int count, char **words)
     static char line[8192];
     bool is_last = false;
     unsigned client;
-    if (count != 2)
+    if (count > 2)
         return 2;
     while (!(is_last && closed == clients) && fgets(line, sizeof line, stdin) != NULL) {
         if (strncmp(line, "connect ", 8) == 0)
             printf("accept %u\n", clients++);
         else if (strcmp(line, "end clients\n") == 0)
             is_last = true;
-        else if (sscanf(line, "data %u ", &client) == 1)
+        else if (sscanf(line, "data %u ", &client) == 1 && count == 2)
             end(client, words[1]);
+        else if (strncmp(line, "data ", 5) == 0)
+            fputs(line, stdout);
         else if (sscanf(line, "end %u", &client) == 1)
             end(client, NULL);
         fflush(stdout);

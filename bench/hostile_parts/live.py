@@ -21,16 +21,19 @@ from hostile_parts.readers import Refused, Wrong, read_arrival, read_arrivals, r
 EXAMPLES = os.path.join(TOP, "examples")
 GUESTS, SERVERS = os.path.join(EXAMPLES, "guests", "built"), os.path.join(EXAMPLES, "server", "built")
 SERVICE, BROKEN_SERVICE = [os.path.join(GUESTS, "service_1")], [os.path.join(GUESTS, "service_2"), os.path.join(GUESTS, "service_1")]
+LOOPS = [os.path.join(EXAMPLES, "live", "built", name) for name in ("loop_2", "loop_1")]
 SERVER, BROKEN_SERVER = [os.path.join(SERVERS, "server_1")], [os.path.join(SERVERS, "server_2"), os.path.join(SERVERS, "server_1")]
 SETUP = b"varan-script 4\nfile index.html 68690a\n"
 PORT = 8080
-# Two versions and their threads; more memory than a small guest takes.
-OPTIONS = ["--memory", "262144", "--threads", "2", "--ring", "2"]
+# Two versions and their threads; as much memory as the largest of these guests takes.
+OPTIONS = ["--memory", "1048576", "--threads", "2", "--ring", "2"]
 LIMITS = [*OPTIONS, "--calls", "131072", "--budget", "1000000000"]
 
 REQUEST = b"GET / HTTP/1.0\r\n\r\n"
 CLIENTS = b"# two clients\nconnect 8080\ntime 4294967295 999999999\ndata 0 %s\nend 0\nconnect 8080\n\ndata 1 00FF\nend 1\nend clients\n" % REQUEST.hex().encode()
 INPUT = b"line put a b\ninput 67657420\ntime 7 8\ninput 610a\n#\nline drop a\nline get a\nend input\n"
+# Two clients of a server with one loop: each wait of the loop may end with what either sends, with the time or with the end.
+POLLED = b"connect 8080\nconnect 8080\ndata 1 %s\ntime 2 0\ndata 0 %s\ntime 1 5\nend 1\ntime 90 0\ndata 0 0A\nend 0\nend clients\n" % (b"put a b\nget".hex().encode(), b"drop a\nsize".hex().encode())
 LINES = b"put a b\nget a\n\x00\xff\ndrop a\nget a\nget a"
 
 # Of a line that the end of input came within.
@@ -61,7 +64,8 @@ class Case:
 PLAIN = Case([], BROKEN_SERVICE, LINES)
 BY_LINES = Case(["--clients"], BROKEN_SERVICE, INPUT)
 BY_CLIENTS = Case(["--clients", "--script", "s"], BROKEN_SERVER, CLIENTS)
-CASES = (PLAIN, BY_LINES, BY_CLIENTS)
+BY_LOOP = Case(["--clients", "--script", "s"], LOOPS, POLLED)
+CASES = (PLAIN, BY_LINES, BY_CLIENTS, BY_LOOP)
 
 
 def transcript_in(told):
@@ -94,6 +98,11 @@ def events_told(transcript):
 def fates_told(transcript):
     """How each version ended, and after how many events, as a report has it but for what it led."""
     return sorted(b"%s %s seen %s" % it for it in re.findall(rb"(?m)^# version (\d) ended: (.*), after (\d+) events$", transcript))
+
+
+def answered(answer):
+    """What was said but for the lines of the console: the loop writes there how many requests it had before its end, which comes sooner where a read fails."""
+    return b"".join(line for line in answer.text.splitlines(keepends=True) if not line.startswith(b"output "))
 
 
 def is_within(some, whole):
@@ -243,7 +252,7 @@ class Live:
                     raise Wrong(f"none of {statuses}")
                 if answer.status == 3 and (answer.text, answer.errors) == (WANTING, b""):
                     return  # there was no memory to read the words, so it isn't known that this is a live run
-                if not whole.text.startswith(answer.text) or answer.status == 0 and answer.text != whole.text:
+                if not answered(whole).startswith(answered(answer)) or answer.status == 0 and answer.text != whole.text:
                     raise Wrong("standard output isn't the beginning of what it was")
 
             return due
@@ -305,7 +314,7 @@ class Live:
     def run(self):
         subprocess.run(["cc", "-O2", "-shared", "-fPIC", "-o", self.shim, os.path.join(TOP, "bench", "hostile_parts", "failing.c")], check=True)
         write("s", SETUP)
-        for kind, case in (("lines", PLAIN), ("lines of --clients", BY_LINES), ("clients", BY_CLIENTS)):
+        for kind, case in (("lines", PLAIN), ("lines of --clients", BY_LINES), ("clients", BY_CLIENTS), ("clients of a loop", BY_LOOP)):
             for content in damaged_text(case.sent):
                 self.broken(kind, case, content)
         self.streams()
