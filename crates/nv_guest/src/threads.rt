@@ -88,7 +88,8 @@ fn run_known(regs: &mut Regs, memory: &mut Memory, most: u32) -> u32
             regs.pc = pc;
             return count;
         };
-        let went = execute(regs, memory, &mut pc, insn.op, insn);
+        let (op, rd, rs1, rs2, imm) = (insn.op, insn.rd, insn.rs1, insn.rs2, insn.imm);
+        let went = execute(regs, memory, &mut pc, op, rd, rs1, rs2, imm);
         if !goes_on(went) {
             regs.pc = pc;
             return count;

@@ -1,6 +1,5 @@
 // One instruction: fetched, decoded and carried out, in the order of its faults.
 ghost use Rattle.std.specs.Prelude.{◌≡◌, pos, ◌≢◌, ℕ, ◌+◌, ◌*◌, ◌/◌, ◌%◌, ◌^◌, ◌<◌};
-ghost use Rattle.nv_isa.specs.Spelling.{HasSmallRegisters};
 ghost use Rattle.nv_machine.specs.Effects.{sum, sign_extended};
 ghost use Rattle.nv_machine.specs.Guest.{gets, next_address, jumps, loads, stores, with_immediate, between_registers, compares, load_reserved, store_conditional, combines, effect, guest_step, width_of, extended, Machine};
 ghost use Rattle.nv_machine.specs.Went.{ended, at_pc};
@@ -8,7 +7,7 @@ ghost use Rattle.nv_machine.specs.Went.{ended, at_pc};
 use crate::alu::{combine, compute, takes};
 use crate::outcome::{FaultKind, Stepped, Went};
 use crate::regs::Regs;
-use nv_isa::{Insn, Op};
+use nv_isa::Op;
 use nv_memory::{Memory, Right, Width};
 
 /// Carries out one instruction. After a call and after a fault nothing has changed. It is inlined into each loop over it.
@@ -19,7 +18,10 @@ pub fn step(regs: &mut Regs, memory: &mut Memory) -> Stepped
     ensures memory_rests { result ≢ Stepped.On → memory.new ≡ memory.old }
 {
     match memory.known(regs.pc) {
-        Some(insn) => carry_out(regs, memory, insn),
+        Some(insn) => {
+            let (op, rd, rs1, rs2, imm) = (insn.op, insn.rd, insn.rs1, insn.rs2, insn.imm);
+            carry_out(regs, memory, op, rd, rs1, rs2, imm)
+        }
         None => step_anew(regs, memory),
     }
 }
@@ -30,7 +32,7 @@ fn step_anew(regs: &mut Regs, memory: &mut Memory) -> Stepped
     ensures { (result, record { regs = regs.new; memory = memory.new }) ≡ guest_step (record { regs = regs.old; memory = memory.old }) }
 {
     match memory.insn(regs.pc) {
-        Ok(Some(insn)) => carry_out(regs, memory, insn),
+        Ok(Some(insn)) => carry_out(regs, memory, insn.op, insn.rd, insn.rs1, insn.rs2, insn.imm),
         Ok(None) => Stepped::Fault(FaultKind::Illegal),
         Err(_) => Stepped::Fault(FaultKind::Fetch),
     }
@@ -38,12 +40,22 @@ fn step_anew(regs: &mut Regs, memory: &mut Memory) -> Stepped
 
 // Carries out the instruction at the registers' own address.
 #[inline(always)]
-fn carry_out(regs: &mut Regs, memory: &mut Memory, insn: Insn) -> Stepped
-    requires { HasSmallRegisters insn }
-    ensures { (result, record { regs = regs.new; memory = memory.new }) ≡ effect insn.op insn (record { regs = regs.old; memory = memory.old }) }
+fn carry_out(
+    regs: &mut Regs,
+    memory: &mut Memory,
+    op: Op,
+    rd: u8,
+    rs1: u8,
+    rs2: u8,
+    imm: i32,
+) -> Stepped
+    requires rd { rd < 32 }
+    requires rs1 { rs1 < 32 }
+    requires rs2 { rs2 < 32 }
+    ensures { (result, record { regs = regs.new; memory = memory.new }) ≡ effect op (record { op = op; rd = rd; rs1 = rs1; rs2 = rs2; imm = imm }) (record { regs = regs.old; memory = memory.old }) }
 {
     let mut pc = regs.pc;
-    let went = execute(regs, memory, &mut pc, insn.op, insn);
+    let went = execute(regs, memory, &mut pc, op, rd, rs1, rs2, imm);
     regs.pc = pc;
     stepped(went)
 }
@@ -125,17 +137,18 @@ fn jump(regs: &mut Regs, pc: &mut u32, rd: u8, to: u32) -> Went
 }
 
 #[inline(always)]
-fn compare(regs: &Regs, pc: &mut u32, op: Op, insn: Insn) -> Went
-    requires small { HasSmallRegisters insn }
+fn compare(regs: &Regs, pc: &mut u32, op: Op, rs1: u8, rs2: u8, imm: i32) -> Went
+    requires rs1 { rs1 < 32 }
+    requires rs2 { rs2 < 32 }
     requires aligned { pc.old % 4 ≡ 0 }
-    ensures effect { (ended result, at_pc regs.now pc.new) ≡ compares op insn (at_pc regs.now pc.old) }
+    ensures effect { (ended result, at_pc regs.now pc.new) ≡ compares op (record { op = op; rd = 0; rs1 = rs1; rs2 = rs2; imm = imm }) (at_pc regs.now pc.old) }
     ensures past { result ≡ Went.Past → pc.new ≡ sum pc.old 4 }
     ensures aligned { pc.new % 4 ≡ 0 }
 {
-    if !takes(op, regs.get(insn.rs1), regs.get(insn.rs2)) {
+    if !takes(op, regs.get(rs1), regs.get(rs2)) {
         return past(pc);
     }
-    let to = pc.wrapping_add_signed(insn.imm);
+    let to = pc.wrapping_add_signed(imm);
     if to % 4 != 0 {
         return Went::Fault(FaultKind::Misaligned);
     }
@@ -144,57 +157,60 @@ fn compare(regs: &Regs, pc: &mut u32, op: Op, insn: Insn) -> Went
 }
 
 #[inline(always)]
-fn with_immediate(regs: &mut Regs, pc: &mut u32, op: Op, insn: Insn) -> Went
-    requires small { HasSmallRegisters insn }
+fn with_immediate(regs: &mut Regs, pc: &mut u32, op: Op, rd: u8, rs1: u8, imm: i32) -> Went
+    requires rd { rd < 32 }
+    requires rs1 { rs1 < 32 }
     requires aligned { pc.old % 4 ≡ 0 }
-    ensures effect { (ended result, at_pc regs.new pc.new) ≡ with_immediate op insn (at_pc regs.old pc.old) }
+    ensures effect { (ended result, at_pc regs.new pc.new) ≡ with_immediate op (record { op = op; rd = rd; rs1 = rs1; rs2 = 0; imm = imm }) (at_pc regs.old pc.old) }
     ensures past { result ≡ Went.Past → pc.new ≡ sum pc.old 4 }
     ensures aligned { pc.new % 4 ≡ 0 }
 {
-    let by = insn.imm.cast_unsigned();
-    let value = compute(op, regs.get(insn.rs1), by);
-    proceed(regs, pc, insn.rd, value)
+    let by = imm.cast_unsigned();
+    let value = compute(op, regs.get(rs1), by);
+    proceed(regs, pc, rd, value)
 }
 
 #[inline(always)]
-fn between_registers(regs: &mut Regs, pc: &mut u32, op: Op, insn: Insn) -> Went
-    requires small { HasSmallRegisters insn }
+fn between_registers(regs: &mut Regs, pc: &mut u32, op: Op, rd: u8, rs1: u8, rs2: u8) -> Went
+    requires rd { rd < 32 }
+    requires rs1 { rs1 < 32 }
+    requires rs2 { rs2 < 32 }
     requires aligned { pc.old % 4 ≡ 0 }
-    ensures effect { (ended result, at_pc regs.new pc.new) ≡ between_registers op insn (at_pc regs.old pc.old) }
+    ensures effect { (ended result, at_pc regs.new pc.new) ≡ between_registers op (record { op = op; rd = rd; rs1 = rs1; rs2 = rs2; imm = pos 0 }) (at_pc regs.old pc.old) }
     ensures past { result ≡ Went.Past → pc.new ≡ sum pc.old 4 }
     ensures aligned { pc.new % 4 ≡ 0 }
 {
-    let value = compute(op, regs.get(insn.rs1), regs.get(insn.rs2));
-    proceed(regs, pc, insn.rd, value)
+    let value = compute(op, regs.get(rs1), regs.get(rs2));
+    proceed(regs, pc, rd, value)
 }
 
 #[inline(always)]
-fn load(regs: &mut Regs, memory: &Memory, pc: &mut u32, op: Op, insn: Insn) -> Went
-    requires small { HasSmallRegisters insn }
+fn load(regs: &mut Regs, memory: &Memory, pc: &mut u32, op: Op, rd: u8, rs1: u8, imm: i32) -> Went
+    requires rd { rd < 32 }
+    requires rs1 { rs1 < 32 }
     requires aligned { pc.old % 4 ≡ 0 }
-    ensures effect { (ended result, at_pc regs.new pc.new) ≡ loads op insn (at_pc regs.old pc.old) memory.now }
+    ensures effect { (ended result, at_pc regs.new pc.new) ≡ loads op (record { op = op; rd = rd; rs1 = rs1; rs2 = 0; imm = imm }) (at_pc regs.old pc.old) memory.now }
     ensures past { result ≡ Went.Past → pc.new ≡ sum pc.old 4 }
     ensures aligned { pc.new % 4 ≡ 0 }
 {
-    let offset = insn.imm;
-    let address = regs.get(insn.rs1).wrapping_add_signed(offset);
+    let address = regs.get(rs1).wrapping_add_signed(imm);
     match memory.load(address, width(op)) {
-        Ok(value) => proceed(regs, pc, insn.rd, extend(op, value)),
+        Ok(value) => proceed(regs, pc, rd, extend(op, value)),
         Err(_) => Went::Fault(FaultKind::Load),
     }
 }
 
 #[inline(always)]
-fn store(regs: &Regs, memory: &mut Memory, pc: &mut u32, op: Op, insn: Insn) -> Went
-    requires small { HasSmallRegisters insn }
+fn store(regs: &Regs, memory: &mut Memory, pc: &mut u32, op: Op, rs1: u8, rs2: u8, imm: i32) -> Went
+    requires rs1 { rs1 < 32 }
+    requires rs2 { rs2 < 32 }
     requires aligned { pc.old % 4 ≡ 0 }
-    ensures effect { (ended result, record { regs = at_pc regs.now pc.new; memory = memory.new }) ≡ stores op insn (record { regs = at_pc regs.now pc.old; memory = memory.old }) }
+    ensures effect { (ended result, record { regs = at_pc regs.now pc.new; memory = memory.new }) ≡ stores op (record { op = op; rd = 0; rs1 = rs1; rs2 = rs2; imm = imm }) (record { regs = at_pc regs.now pc.old; memory = memory.old }) }
     ensures past { result ≡ Went.Past → pc.new ≡ sum pc.old 4 }
     ensures aligned { pc.new % 4 ≡ 0 }
 {
-    let offset = insn.imm;
-    let address = regs.get(insn.rs1).wrapping_add_signed(offset);
-    let value = regs.get(insn.rs2);
+    let address = regs.get(rs1).wrapping_add_signed(imm);
+    let value = regs.get(rs2);
     match memory.store(address, width(op), value) {
         Ok(()) => past(pc),
         Err(_) => Went::Fault(FaultKind::Store),
@@ -202,11 +218,12 @@ fn store(regs: &Regs, memory: &mut Memory, pc: &mut u32, op: Op, insn: Insn) -> 
 }
 
 #[inline(never)]
-fn reserve(regs: &mut Regs, memory: &Memory, insn: Insn) -> Stepped
-    requires { HasSmallRegisters insn }
-    ensures { (result, regs.new) ≡ load_reserved insn regs.old memory.now }
+fn reserve(regs: &mut Regs, memory: &Memory, rd: u8, rs1: u8) -> Stepped
+    requires rd { rd < 32 }
+    requires rs1 { rs1 < 32 }
+    ensures { (result, regs.new) ≡ load_reserved (record { op = Op.LoadReserved; rd = rd; rs1 = rs1; rs2 = 0; imm = pos 0 }) regs.old memory.now }
 {
-    let address = regs.get(insn.rs1);
+    let address = regs.get(rs1);
     if address % 4 != 0 {
         return Stepped::Fault(FaultKind::Load);
     }
@@ -214,7 +231,7 @@ fn reserve(regs: &mut Regs, memory: &Memory, insn: Insn) -> Stepped
         return Stepped::Fault(FaultKind::Load);
     };
     regs.reserve(address);
-    advance(regs, insn.rd, value)
+    advance(regs, rd, value)
 }
 
 #[inline(never)]
@@ -280,83 +297,93 @@ fn went(regs: &Regs, pc: &mut u32, stepped: Stepped) -> Went
 /// Carries out an instruction at an address that stands apart from the registers, whose own address means nothing meanwhile.
 /// Each operation has an arm of its own, and what it calls is inlined there, so that nothing asks for the operation again.
 #[inline(always)]
-pub fn execute(regs: &mut Regs, memory: &mut Memory, pc: &mut u32, op: Op, insn: Insn) -> Went
-    requires small { HasSmallRegisters insn }
+pub fn execute(
+    regs: &mut Regs,
+    memory: &mut Memory,
+    pc: &mut u32,
+    op: Op,
+    rd: u8,
+    rs1: u8,
+    rs2: u8,
+    imm: i32,
+) -> Went
+    requires rd { rd < 32 }
+    requires rs1 { rs1 < 32 }
+    requires rs2 { rs2 < 32 }
     requires aligned { pc.old % 4 ≡ 0 }
-    ensures effect { (ended result, record { regs = at_pc regs.new pc.new; memory = memory.new }) ≡ effect op insn (record { regs = at_pc regs.old pc.old; memory = memory.old }) }
+    ensures effect { (ended result, record { regs = at_pc regs.new pc.new; memory = memory.new }) ≡ effect op (record { op = op; rd = rd; rs1 = rs1; rs2 = rs2; imm = imm }) (record { regs = at_pc regs.old pc.old; memory = memory.old }) }
     ensures past { result ≡ Went.Past → pc.new ≡ sum pc.old 4 }
     ensures aligned { pc.new % 4 ≡ 0 }
 {
     match op {
         Op::Lui => {
-            let value = insn.imm.cast_unsigned();
-            proceed(regs, pc, insn.rd, value)
+            let value = imm.cast_unsigned();
+            proceed(regs, pc, rd, value)
         }
         Op::Auipc => {
-            let value = pc.wrapping_add_signed(insn.imm);
-            proceed(regs, pc, insn.rd, value)
+            let value = pc.wrapping_add_signed(imm);
+            proceed(regs, pc, rd, value)
         }
         Op::Jal => {
-            let to = pc.wrapping_add_signed(insn.imm);
-            jump(regs, pc, insn.rd, to)
+            let to = pc.wrapping_add_signed(imm);
+            jump(regs, pc, rd, to)
         }
         Op::Jalr => {
-            let offset = insn.imm;
-            let to = regs.get(insn.rs1).wrapping_add_signed(offset);
-            jump(regs, pc, insn.rd, to / 2 * 2)
+            let to = regs.get(rs1).wrapping_add_signed(imm);
+            jump(regs, pc, rd, to / 2 * 2)
         }
-        Op::Beq => compare(regs, pc, Op::Beq, insn),
-        Op::Bne => compare(regs, pc, Op::Bne, insn),
-        Op::Blt => compare(regs, pc, Op::Blt, insn),
-        Op::Bge => compare(regs, pc, Op::Bge, insn),
-        Op::Bltu => compare(regs, pc, Op::Bltu, insn),
-        Op::Bgeu => compare(regs, pc, Op::Bgeu, insn),
-        Op::Lb => load(regs, memory, pc, Op::Lb, insn),
-        Op::Lh => load(regs, memory, pc, Op::Lh, insn),
-        Op::Lw => load(regs, memory, pc, Op::Lw, insn),
-        Op::Lbu => load(regs, memory, pc, Op::Lbu, insn),
-        Op::Lhu => load(regs, memory, pc, Op::Lhu, insn),
-        Op::Sb => store(regs, memory, pc, Op::Sb, insn),
-        Op::Sh => store(regs, memory, pc, Op::Sh, insn),
-        Op::Sw => store(regs, memory, pc, Op::Sw, insn),
-        Op::Addi => with_immediate(regs, pc, Op::Addi, insn),
-        Op::Slti => with_immediate(regs, pc, Op::Slti, insn),
-        Op::Sltiu => with_immediate(regs, pc, Op::Sltiu, insn),
-        Op::Xori => with_immediate(regs, pc, Op::Xori, insn),
-        Op::Ori => with_immediate(regs, pc, Op::Ori, insn),
-        Op::Andi => with_immediate(regs, pc, Op::Andi, insn),
-        Op::Slli => with_immediate(regs, pc, Op::Slli, insn),
-        Op::Srli => with_immediate(regs, pc, Op::Srli, insn),
-        Op::Srai => with_immediate(regs, pc, Op::Srai, insn),
-        Op::Add => between_registers(regs, pc, Op::Add, insn),
-        Op::Sub => between_registers(regs, pc, Op::Sub, insn),
-        Op::Sll => between_registers(regs, pc, Op::Sll, insn),
-        Op::Slt => between_registers(regs, pc, Op::Slt, insn),
-        Op::Sltu => between_registers(regs, pc, Op::Sltu, insn),
-        Op::Xor => between_registers(regs, pc, Op::Xor, insn),
-        Op::Srl => between_registers(regs, pc, Op::Srl, insn),
-        Op::Sra => between_registers(regs, pc, Op::Sra, insn),
-        Op::Or => between_registers(regs, pc, Op::Or, insn),
-        Op::And => between_registers(regs, pc, Op::And, insn),
-        Op::Mul => between_registers(regs, pc, Op::Mul, insn),
-        Op::Mulh => between_registers(regs, pc, Op::Mulh, insn),
-        Op::Mulhsu => between_registers(regs, pc, Op::Mulhsu, insn),
-        Op::Mulhu => between_registers(regs, pc, Op::Mulhu, insn),
-        Op::Div => between_registers(regs, pc, Op::Div, insn),
-        Op::Divu => between_registers(regs, pc, Op::Divu, insn),
-        Op::Rem => between_registers(regs, pc, Op::Rem, insn),
-        Op::Remu => between_registers(regs, pc, Op::Remu, insn),
+        Op::Beq => compare(regs, pc, Op::Beq, rs1, rs2, imm),
+        Op::Bne => compare(regs, pc, Op::Bne, rs1, rs2, imm),
+        Op::Blt => compare(regs, pc, Op::Blt, rs1, rs2, imm),
+        Op::Bge => compare(regs, pc, Op::Bge, rs1, rs2, imm),
+        Op::Bltu => compare(regs, pc, Op::Bltu, rs1, rs2, imm),
+        Op::Bgeu => compare(regs, pc, Op::Bgeu, rs1, rs2, imm),
+        Op::Lb => load(regs, memory, pc, Op::Lb, rd, rs1, imm),
+        Op::Lh => load(regs, memory, pc, Op::Lh, rd, rs1, imm),
+        Op::Lw => load(regs, memory, pc, Op::Lw, rd, rs1, imm),
+        Op::Lbu => load(regs, memory, pc, Op::Lbu, rd, rs1, imm),
+        Op::Lhu => load(regs, memory, pc, Op::Lhu, rd, rs1, imm),
+        Op::Sb => store(regs, memory, pc, Op::Sb, rs1, rs2, imm),
+        Op::Sh => store(regs, memory, pc, Op::Sh, rs1, rs2, imm),
+        Op::Sw => store(regs, memory, pc, Op::Sw, rs1, rs2, imm),
+        Op::Addi => with_immediate(regs, pc, Op::Addi, rd, rs1, imm),
+        Op::Slti => with_immediate(regs, pc, Op::Slti, rd, rs1, imm),
+        Op::Sltiu => with_immediate(regs, pc, Op::Sltiu, rd, rs1, imm),
+        Op::Xori => with_immediate(regs, pc, Op::Xori, rd, rs1, imm),
+        Op::Ori => with_immediate(regs, pc, Op::Ori, rd, rs1, imm),
+        Op::Andi => with_immediate(regs, pc, Op::Andi, rd, rs1, imm),
+        Op::Slli => with_immediate(regs, pc, Op::Slli, rd, rs1, imm),
+        Op::Srli => with_immediate(regs, pc, Op::Srli, rd, rs1, imm),
+        Op::Srai => with_immediate(regs, pc, Op::Srai, rd, rs1, imm),
+        Op::Add => between_registers(regs, pc, Op::Add, rd, rs1, rs2),
+        Op::Sub => between_registers(regs, pc, Op::Sub, rd, rs1, rs2),
+        Op::Sll => between_registers(regs, pc, Op::Sll, rd, rs1, rs2),
+        Op::Slt => between_registers(regs, pc, Op::Slt, rd, rs1, rs2),
+        Op::Sltu => between_registers(regs, pc, Op::Sltu, rd, rs1, rs2),
+        Op::Xor => between_registers(regs, pc, Op::Xor, rd, rs1, rs2),
+        Op::Srl => between_registers(regs, pc, Op::Srl, rd, rs1, rs2),
+        Op::Sra => between_registers(regs, pc, Op::Sra, rd, rs1, rs2),
+        Op::Or => between_registers(regs, pc, Op::Or, rd, rs1, rs2),
+        Op::And => between_registers(regs, pc, Op::And, rd, rs1, rs2),
+        Op::Mul => between_registers(regs, pc, Op::Mul, rd, rs1, rs2),
+        Op::Mulh => between_registers(regs, pc, Op::Mulh, rd, rs1, rs2),
+        Op::Mulhsu => between_registers(regs, pc, Op::Mulhsu, rd, rs1, rs2),
+        Op::Mulhu => between_registers(regs, pc, Op::Mulhu, rd, rs1, rs2),
+        Op::Div => between_registers(regs, pc, Op::Div, rd, rs1, rs2),
+        Op::Divu => between_registers(regs, pc, Op::Divu, rd, rs1, rs2),
+        Op::Rem => between_registers(regs, pc, Op::Rem, rd, rs1, rs2),
+        Op::Remu => between_registers(regs, pc, Op::Remu, rd, rs1, rs2),
         Op::Fence => past(pc),
         Op::Ecall => Went::Call,
         Op::Ebreak => Went::Fault(FaultKind::Breakpoint),
         Op::LoadReserved => {
             regs.pc = *pc;
-            let stepped = reserve(regs, memory, insn);
+            let stepped = reserve(regs, memory, rd, rs1);
             went(regs, pc, stepped)
         }
         Op::StoreConditional => {
             regs.pc = *pc;
-            let stepped = store_reserved(regs, memory, insn.rd, insn.rs1, insn.rs2);
+            let stepped = store_reserved(regs, memory, rd, rs1, rs2);
             went(regs, pc, stepped)
         }
         Op::AmoSwap
@@ -369,7 +396,7 @@ pub fn execute(regs: &mut Regs, memory: &mut Memory, pc: &mut u32, op: Op, insn:
         | Op::AmoMinu
         | Op::AmoMaxu => {
             regs.pc = *pc;
-            let stepped = combine_word(regs, memory, op, insn.rd, insn.rs1, insn.rs2);
+            let stepped = combine_word(regs, memory, op, rd, rs1, rs2);
             went(regs, pc, stepped)
         }
     }

@@ -207,13 +207,15 @@ kept_as_moved start k end before after bytes regions ok same left = record {
 pub insn_is : (bytes : List ℕ) (regions : List Region) (a : ℕ) (i : Insn) → IsInsn bytes regions a i → insn_at (record { bytes = bytes; regions = regions }) a ≡ Ok (Some i)
 insn_is bytes regions a i is = rw (is.held, is.spelled) refl
 
-pub known_is : (start : ℕ) (insns : Kept) (bytes : List ℕ) (regions : List Region) (a : ℕ) (found : Option Insn) → AreDecoded start insns bytes regions → a % 4 ≡ 0 → a < 2 ^ 32 → found ≡ kept start insns a → IfSome found (λ insn. insn_at (record { bytes = bytes; regions = regions }) a ≡ Ok (Some insn))
-known_is start insns bytes regions a None ok w small e = tt
-known_is start insns bytes regions a (Some i) ok w small e = insn_is bytes regions a i (known_at start insns bytes regions a i ok w small (sym e))
+pub known_is : {R : Type 0} (now : R → Insn) (start : ℕ) (insns : Kept) (bytes : List ℕ) (regions : List Region) (a : ℕ) (found : Option R) → AreDecoded start insns bytes regions → a % 4 ≡ 0 → a < 2 ^ 32 → IfSome found (λ r. kept start insns a ≡ Some (now r))
+    → IfSome found (λ r. insn_at (record { bytes = bytes; regions = regions }) a ≡ Ok (Some (now r)))
+known_is now start insns bytes regions a None ok w small e = tt
+known_is now start insns bytes regions a (Some r) ok w small e = insn_is bytes regions a (now r) (known_at start insns bytes regions a (now r) ok w small e)
 
-pub known_small : (start : ℕ) (insns : Kept) (bytes : List ℕ) (regions : List Region) (a : ℕ) (found : Option Insn) → AreDecoded start insns bytes regions → a % 4 ≡ 0 → a < 2 ^ 32 → found ≡ kept start insns a → IfSome found HasSmallRegisters
-known_small start insns bytes regions a None ok w small e = tt
-known_small start insns bytes regions a (Some i) ok w small e = (known_at start insns bytes regions a i ok w small (sym e)).registers
+pub known_small : {R : Type 0} (now : R → Insn) (start : ℕ) (insns : Kept) (bytes : List ℕ) (regions : List Region) (a : ℕ) (found : Option R) → AreDecoded start insns bytes regions → a % 4 ≡ 0 → a < 2 ^ 32 → IfSome found (λ r. kept start insns a ≡ Some (now r))
+    → IfSome found (λ r. HasSmallRegisters (now r))
+known_small now start insns bytes regions a None ok w small e = tt
+known_small now start insns bytes regions a (Some r) ok w small e = (known_at start insns bytes regions a (now r) ok w small e).registers
 
 -- the same at a place of the code
 address_is : (start n k : ℕ) → start + 4 * n ≤ 2 ^ 32 → k < n → start + 4 * k ≡ code_address start k
@@ -232,14 +234,14 @@ kept_other _ n = refl
 stands : (x i : Insn) → i ≡ x → i.op ≢ Ebreak → shown x ≡ Some i
 stands x i e n = sym (same_shown i x e) ∙ rw (kept_other i.op n) refl
 
-pub place_known : (start : ℕ) (insns : Kept) (bytes : List ℕ) (regions : List Region) (k : ℕ) (found : Option Insn) → AreDecoded start insns bytes regions → IfSome found (λ insn. insn ≡ get_or insns k blank)
-    → IfSome found (λ insn. insn.op ≢ Ebreak → insn_at (record { bytes = bytes; regions = regions }) (code_address (code_start regions) k) ≡ Ok (Some insn))
-place_known start insns bytes regions k None ok e = tt
-place_known start insns bytes regions k (Some i) ok e = λ n. insn_is bytes regions (code_address (code_start regions) k) i (at_place start insns bytes regions k i ok (stands (get_or insns k blank) i e n))
+pub place_known : {R : Type 0} (now : R → Insn) (start : ℕ) (insns : Kept) (bytes : List ℕ) (regions : List Region) (k : ℕ) (found : Option R) → AreDecoded start insns bytes regions → IfSome found (λ r. now r ≡ get_or insns k blank)
+    → IfSome found (λ r. (now r).op ≢ Ebreak → insn_at (record { bytes = bytes; regions = regions }) (code_address (code_start regions) k) ≡ Ok (Some (now r)))
+place_known now start insns bytes regions k None ok e = tt
+place_known now start insns bytes regions k (Some r) ok e = λ n. insn_is bytes regions (code_address (code_start regions) k) (now r) (at_place start insns bytes regions k (now r) ok (stands (get_or insns k blank) (now r) e n))
 
-pub place_small : (start : ℕ) (insns : Kept) (bytes : List ℕ) (regions : List Region) (k : ℕ) (found : Option Insn) → AreDecoded start insns bytes regions → IfSome found (λ insn. insn ≡ get_or insns k blank) → IfSome found HasSmallRegisters
-place_small start insns bytes regions k None ok e = tt
-place_small start insns bytes regions k (Some i) ok e = subst (λ (x : Insn). HasSmallRegisters x) (sym e) (ok.small k)
+pub place_small : {R : Type 0} (now : R → Insn) (start : ℕ) (insns : Kept) (bytes : List ℕ) (regions : List Region) (k : ℕ) (found : Option R) → AreDecoded start insns bytes regions → IfSome found (λ r. now r ≡ get_or insns k blank) → IfSome found (λ r. HasSmallRegisters (now r))
+place_small now start insns bytes regions k None ok e = tt
+place_small now start insns bytes regions k (Some r) ok e = subst (λ (x : Insn). HasSmallRegisters x) (sym e) (ok.small k)
 
 pub written_back : {X : Type 0} (items new : List X) (len : ℕ) → length items ≡ len → length new ≡ len → take len (new ++ drop (length new) items) ≡ new
 written_back items new len e f = grind (arith, common_steps)

@@ -1,5 +1,5 @@
 // Instructions that were decoded, so that most steps decode none.
-ghost use Rattle.std.specs.Prelude.{◌≡◌, ◌≤◌, ◌%◌, ◌+◌, ◌*◌, ◌^◌, IfOk, IfSome, length, replicate, slice_set, slice_index_or};
+ghost use Rattle.std.specs.Prelude.{◌≡◌, ◌≤◌, ◌%◌, ◌+◌, ◌*◌, ◌^◌, IfOk, IfSome, Some, is_some, length, replicate, slice_set, slice_index_or};
 ghost use Rattle.nv_memory.specs.Code.{has_code, code_start};
 ghost use Rattle.nv_memory.specs.inner.Decoded.{kept, place_of, Remain, ArePlaces, blank, shown};
 
@@ -38,9 +38,10 @@ impl Decoded {
         self.start as usize + 4 * self.insns.len()
     }
 
-    /// The instruction at the address, if it is kept.
-    pub fn at(&self, address: u32) -> Option<Insn>
-        ensures { result ≡ kept self.now.start self.now.insns.items address }
+    /// The instruction at the address, if it is kept. It is lent: a copied one is a word of 64 bits, which would be taken apart by shifts.
+    pub fn at(&self, address: u32) -> Option<&Insn>
+        ensures found { is_some result ≡ is_some (kept self.now.start self.now.insns.items address) }
+        ensures insn { IfSome result (λ insn. kept self.now.start self.now.insns.items address ≡ Some insn.now) }
     {
         let place = (address.wrapping_sub(self.start) / 4) as usize;
         if place < self.insns.len() {
@@ -50,20 +51,13 @@ impl Decoded {
         }
     }
 
-    /// What stands at the place, if it is one of these. An EBREAK isn't kept. Inlined, so that its fields stay apart.
+    /// What stands at the place, if it is one of these. An EBREAK isn't kept.
     #[inline(always)]
-    pub fn at_place(&self, place: usize) -> Option<Insn>
-        ensures { IfSome result (λ insn. insn ≡ slice_index_or self.now.insns.items place blank) }
+    pub fn at_place(&self, place: usize) -> Option<&Insn>
+        ensures { IfSome result (λ insn. insn.now ≡ slice_index_or self.now.insns.items place blank) }
     {
         if place < self.insns.len() {
-            let insn = &self.insns[place];
-            Some(Insn {
-                op: insn.op,
-                rd: insn.rd,
-                rs1: insn.rs1,
-                rs2: insn.rs2,
-                imm: insn.imm,
-            })
+            Some(&self.insns[place])
         } else {
             None
         }
@@ -106,19 +100,13 @@ fn blank() -> Insn
     }
 }
 
-// Field by field, as `at_place`: a copied instruction is one word of 64 bits, which would be taken apart again.
-fn shown(insn: &Insn) -> Option<Insn>
-    ensures { result ≡ shown insn.now }
+fn shown(insn: &Insn) -> Option<&Insn>
+    ensures found { is_some result ≡ is_some (shown insn.now) }
+    ensures insn { IfSome result (λ found. shown insn.now ≡ Some found.now) }
 {
     match insn.op {
         Op::Ebreak => None,
-        op => Some(Insn {
-            op,
-            rd: insn.rd,
-            rs1: insn.rs1,
-            rs2: insn.rs2,
-            imm: insn.imm,
-        }),
+        _ => Some(insn),
     }
 }
 

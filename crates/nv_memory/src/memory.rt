@@ -123,10 +123,10 @@ impl Memory {
     }
 
     /// The instruction at the address, where its word was executed since it was last written.
-    pub fn known(&self, address: u32) -> Option<Insn>
+    pub fn known(&self, address: u32) -> Option<&Insn>
         requires { address % 4 ≡ 0 }
-        ensures insn { IfSome result (λ insn. insn_at self.now address ≡ Ok (Some insn)) }
-        ensures registers { IfSome result HasSmallRegisters }
+        ensures insn { IfSome result (λ insn. insn_at self.now address ≡ Ok (Some insn.now)) }
+        ensures registers { IfSome result (λ insn. HasSmallRegisters insn.now) }
     {
         self.decoded.at(address)
     }
@@ -141,9 +141,9 @@ impl Memory {
 
     /// The instruction at this place of the code, where its word was executed since it was last written; elsewhere an EBREAK, or none.
     #[inline(always)]
-    pub fn known_at(&self, place: usize) -> Option<Insn>
-        ensures insn { IfSome result (λ insn. insn.op ≢ Op.Ebreak → insn_at self.now (code_address (code_start self.now.regions) place) ≡ Ok (Some insn)) }
-        ensures registers { IfSome result HasSmallRegisters }
+    pub fn known_at(&self, place: usize) -> Option<&Insn>
+        ensures insn { IfSome result (λ insn. insn.now.op ≢ Op.Ebreak → insn_at self.now (code_address (code_start self.now.regions) place) ≡ Ok (Some insn.now)) }
+        ensures registers { IfSome result (λ insn. HasSmallRegisters insn.now) }
     {
         self.decoded.at_place(place)
     }
