@@ -1,11 +1,13 @@
-//! Lists that grow at their end, and whose beginning may be let go.
-//! Types: `Whole` (a list for proofs alone), `Past` (one of which a part is there).
-//! Proved: in contracts a `Past` is the whole list, whatever was let go; what is read of it is what that list has there.
-//! Above: kernels, whose logs, arrivals and bytes sent may be longer than memory.
+//! Lists that grow at their end, and of which a part may be let go.
+//! Types: `Whole` (a list for proofs alone), `Past` (one whose beginning may be let go), `Table` (one of which any item may be let go).
+//! Proved: in contracts a `Past` and a `Table` are the whole list, whatever was let go; what is read of them is what that list has there.
+//! Above: kernels, whose logs, arrivals, connections and bytes sent may be longer than memory.
 #![tactic(auto)]
 
 mod past;
+mod table;
 mod whole;
 
 pub use past::Past;
+pub use table::Table;
 pub use whole::Whole;

@@ -98,15 +98,14 @@ impl<T> Past<T> {
 
 impl<T: Copy> Past<T> {
     /// These too, for which there is memory.
-    pub fn extend(&mut self, more: &[T])
+    pub fn append(&mut self, more: &[T])
         requires { length self.old.items + length more.now ≤ self.old.most }
         ensures items { self.new.items ≡ self.old.items ++ more.now }
         ensures gone { self.new.gone ≡ self.old.gone }
-        ensures most { self.new.most ≡ self.old.most }
+        ensures most { self.old.most ≤ self.new.most }
     {
-        for one in more {
-            self.push(*one);
-        }
+        self.whole = self.whole.and_all(more);
+        let _ = self.kept.extend_from_slice(more);
     }
 }
 

@@ -1,5 +1,5 @@
 // A list that only proofs read. It takes no memory, and its methods do nothing at run time.
-ghost use Rattle.std.specs.Prelude.{◌≡◌, List, [], ◌∷◌, ◌++◌};
+ghost use Rattle.std.specs.Prelude.{◌≡◌, List, [], ◌∷◌, ◌++◌, slice_set};
 ghost use Rattle.std.specs.Borrow.{ftrue};
 
 use std::marker::{Model, PhantomData};
@@ -30,6 +30,20 @@ impl<T> Whole<T> {
     /// The same with one more.
     pub fn and(&self, _one: &T) -> Whole<T>
         ensures { result.items ≡ self.now.items ++ _one.now ∷ [] }
+    {
+        Whole { of: PhantomData }
+    }
+
+    /// The same with these too.
+    pub fn and_all(&self, _more: &[T]) -> Whole<T>
+        ensures { result.items ≡ self.now.items ++ _more.now }
+    {
+        Whole { of: PhantomData }
+    }
+
+    /// The same with another item at this place.
+    pub fn with(&self, _place: usize, _one: &T) -> Whole<T>
+        ensures { result.items ≡ slice_set self.now.items _place _one.now }
     {
         Whole { of: PhantomData }
     }

@@ -1,9 +1,8 @@
-use Rattle.std.proofs.Common.{◌≡◌, ◌∙◌, ℕ, ◌<◌, ◌≤◌, ◌+◌, ◌∷◌, [], ◌++◌, sym, ap, subst, drop, length, arith}
+use Rattle.std.proofs.Common.{◌≡◌, ◌∙◌, ℕ, ◌<◌, ◌+◌, ◌∷◌, [], ◌++◌, sym, ap, subst, drop, length, arith}
 use Rattle.std.specs.Prelude.{vec_len, vec_capacity}
 use Rattle.std.proofs.lemmas.List.{length-append, drop-append-le}
 use Rattle.nv_past.specs.Known.{Known, most_of}
 use Rattle.nv_past.proofs.Most.{most-inside}
-use Rattle.nv_past.proofs.past.Past.push.Given.{Over}
 use Rattle.nv_past.proofs.past.Past.push.Goals as goal
 
 -- there is room behind those that are kept

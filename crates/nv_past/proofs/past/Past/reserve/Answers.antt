@@ -1,5 +1,5 @@
-use Rattle.std.proofs.Common.{◌≡◌, ◌∙◌, ℕ, ◌<◌, ◌≤◌, ◌+◌, sym, subst, length, arith}
-use Rattle.std.specs.Prelude.{OnOk, vec_len, vec_capacity}
+use Rattle.std.proofs.Common.{◌≤◌, ◌+◌, subst, length, arith}
+use Rattle.std.specs.Prelude.{vec_capacity}
 use Rattle.nv_past.specs.Known.{Known, most_of}
 use Rattle.nv_past.proofs.Most.{most-grows, most-holds}
 use Rattle.nv_past.proofs.past.Past.reserve.Goals as goal
