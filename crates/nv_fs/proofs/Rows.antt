@@ -1,5 +1,5 @@
 -- The definitions, computed on two worked runs of calls.
-use Rattle.std.proofs.Common.{◌≡◌, refl, ℕ, ℤ, pos, negsuc, List, [], ◌∷◌, Some}
+use Rattle.std.proofs.Common.{◌≡◌, refl, false, ℕ, ℤ, pos, negsuc, List, [], ◌∷◌, Some}
 use Rattle.nv_fs.specs.States.{FileState, Answer, open_of, has_open, is_shared, is_kept, is_pipe, free_open, install}
 use Rattle.nv_fs.specs.Starts.{first_state, first_descriptors}
 use Rattle.nv_fs.specs.Closes.{close_of, dup_of, free_descriptor}
@@ -15,7 +15,7 @@ shown a = (a.ret, a.payload)
 
 -- the file `f` with `abcd`
 abbrev start : FileState
-start = first_state [] (record { name = Some (102 ∷ []); bytes = 97 ∷ 98 ∷ 99 ∷ 100 ∷ [] } ∷ [])
+start = first_state false [] (record { name = Some (102 ∷ []); bytes = 97 ∷ 98 ∷ 99 ∷ 100 ∷ [] } ∷ [])
 
 abbrev open_f : FileState → ℕ → Answer
 open_f s flags = open_at_of s (negsuc 99) (102 ∷ []) flags

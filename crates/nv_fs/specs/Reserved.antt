@@ -8,7 +8,7 @@ use Rattle.nv_fs.specs.States.{FileState, open_of}
 use Rattle.nv_fs.specs.Fetched.{pipe_at}
 use Rattle.nv_fs.specs.Stored.{start_of}
 
--- how many elements each table has memory for, how long a new name may be, how many bytes the console, what is left of the input, and each pipe have memory for, and which blocks of each file take memory
+-- how many elements each table has memory for, how long a new name may be, how many bytes the console with what was let go, what is left of the input, and each pipe have memory for, and which blocks of each file take memory
 pub record Reserved : Type 0 where
   pub opens : ℕ
   pub files : ℕ
@@ -19,10 +19,11 @@ pub record Reserved : Type 0 where
   pub contents : List (List Bool)
   pub buffers : List ℕ
 
--- a file system: what calls see, and the memory
+-- a file system: what calls see, the memory, and how many bytes of the console, from the first on, were let go
 pub record Disk : Type 0 where
   pub state : FileState
   pub reserved : Reserved
+  pub gone : ℕ
 
 -- there is memory for n bytes of a file from a place on
 abbrev pub HasBlocks : Disk → ℕ → ℕ → ℕ → Type 0
@@ -30,7 +31,7 @@ HasBlocks d i place n = i < length d.state.files → HoldsRange (slice_index_or 
 
 -- there is memory for a write of n bytes to a target
 abbrev pub IsReserved : Disk → OpenFile → Target → ℕ → Type 0
-IsReserved d o Console n = length d.state.console + min n (16777216 - length d.state.console) ≤ d.reserved.console
+IsReserved d o Console n = length d.state.console + min n (d.state.limit - length d.state.console) ≤ d.reserved.console
 IsReserved d o (File i) n = HasBlocks d i (start_of d.state o i) (min n (1048576 - start_of d.state o i))
 IsReserved d o (Writer k) n = k < length d.state.pipes → length (pipe_at d.state k) + n ≤ 4096 → length (pipe_at d.state k) + n ≤ slice_index d.reserved.buffers k
 IsReserved d o _ n = Unit {0}

@@ -1,5 +1,5 @@
 -- The state that a run begins with.
-use Rattle.std.specs.Prelude.{ℕ, true, false, List, [], ◌∷◌, replicate, Option, Some, None}
+use Rattle.std.specs.Prelude.{ℕ, Bool, true, false, List, [], ◌∷◌, replicate, Option, Some, None, if◌then◌else◌}
 use Rattle.std.specs.Global.{Vec}
 use Rattle.nv_fs.specs.declared.open_file.OpenFile.{OpenFile}
 use Rattle.nv_fs.specs.declared.open_file.Target.TheVariants.{Input, Console}
@@ -16,13 +16,18 @@ first_descriptors = Some 0 ∷ Some 1 ∷ Some 1 ∷ replicate 61 None
 abbrev pub first_opens : List OpenFile
 first_opens = one_way Input true ∷ one_way Console false ∷ []
 
--- what a run begins with, from the input and the files
-abbrev pub first_state : List ℕ → List Inode → FileState
-first_state input files = record {
+-- how many bytes the console takes in all: where the later calls are in the table, as many as 64 bits count
+unfoldable pub console_limit : Bool → ℕ
+console_limit polls = if polls then 18446744073709551615 else 16777216
+
+-- what a run begins with, from the input and the files, by whether the later calls are in the table
+abbrev pub first_state : Bool → List ℕ → List Inode → FileState
+first_state polls input files = record {
   descriptors = first_descriptors;
   opens = first_opens;
   files = files;
   pipes = [];
   input = input;
   console = [];
+  limit = console_limit polls;
 }

@@ -10,7 +10,7 @@ pub record Inode : Type 0 where
   pub name : Option (List ℕ)
   pub bytes : List ℕ
 
--- A descriptor has the number of its open file, which several may share. The input is what is still to be read of it.
+-- A descriptor has the number of its open file, which several may share. The input is what is still to be read of it, and the limit how many bytes the console takes in all.
 pub record FileState : Type 0 where
   pub descriptors : List (Option ℕ)
   pub opens : List OpenFile
@@ -18,6 +18,7 @@ pub record FileState : Type 0 where
   pub pipes : List (List ℕ)
   pub input : List ℕ
   pub console : List ℕ
+  pub limit : ℕ
 
 -- what a call leaves, its result, and the bytes that it hands out
 pub record Answer : Type 0 where

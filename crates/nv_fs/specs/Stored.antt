@@ -1,5 +1,5 @@
 -- write(2).
-use Rattle.std.specs.Prelude.{ℕ, pos, ◌+◌, ◌-◌, not, ◌==◌, nat_le, nat_lt, List, [], ◌++◌, Option, Some, None, take, length, slice_set, if◌then◌else◌}
+use Rattle.std.specs.Prelude.{ℕ, pos, ◌+◌, ◌-◌, min, not, ◌==◌, nat_le, nat_lt, List, [], ◌++◌, Option, Some, None, take, length, slice_set, if◌then◌else◌}
 use Rattle.nv_fs.specs.declared.open_file.OpenFile.{OpenFile}
 use Rattle.nv_fs.specs.declared.open_file.Target.{Target}
 use Rattle.nv_fs.specs.declared.open_file.Target.TheVariants.{Console, File, Reader, Writer}
@@ -9,11 +9,15 @@ use Rattle.nv_blocks.specs.Contents.{with_bytes}
 use Rattle.nv_fs.specs.Seeks.{bytes_of}
 use Rattle.nv_fs.specs.Fetched.{pipe_at, with_pipe}
 
+-- one write moves at most so many bytes (write(2), "Notes")
+abbrev pub MOST_WRITTEN : ℕ
+MOST_WRITTEN = 0x7FFF_F000
+
 -- The console takes as many bytes as fit the limit.
 abbrev pub write_console : FileState → ℕ → List ℕ → Answer
 write_console s limit bytes =
     if nat_le limit (length s.console) then only s ENOSPC
-    else (let part = take (limit - length s.console) bytes in answer (record s { console = s.console ++ part }) (pos (length part)) [])
+    else (let part = take (min MOST_WRITTEN (limit - length s.console)) bytes in answer (record s { console = s.console ++ part }) (pos (length part)) [])
 
 abbrev pub with_content : FileState → ℕ → List ℕ → FileState
 with_content s i bytes = record s { files = slice_set s.files i record { name = (file_at s i).name; bytes = bytes } }
@@ -37,7 +41,7 @@ write_pipe s k limit bytes =
     else answer (with_pipe s k (pipe_at s k ++ bytes)) (pos (length bytes)) [])
 
 abbrev pub write_target : FileState → ℕ → OpenFile → Target → List ℕ → Answer
-write_target s number o Console bytes = write_console s 16777216 bytes
+write_target s number o Console bytes = write_console s s.limit bytes
 write_target s number o (File i) bytes = write_at s number o i 1048576 (start_of s o i) bytes
 write_target s number o (Writer k) bytes = write_pipe s k 4096 bytes
 write_target s number o _ bytes = only s EBADF
@@ -48,6 +52,6 @@ write_open s (Some o) bytes =
     if not o.1.writes then only s EBADF
     else (if length bytes == 0 then only s (pos 0) else write_target s o.0 o.1 o.1.target bytes)
 
--- write(2): the console holds 16777216 bytes, a file 1048576, a pipe 4096
+-- write(2): the console takes as many bytes as its limit says, a file holds 1048576, a pipe 4096
 unfoldable pub write_of : FileState → ℕ → List ℕ → Answer
 write_of s fd bytes = write_open s (open_of s fd) bytes

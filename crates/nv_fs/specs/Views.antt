@@ -30,6 +30,7 @@ state_of k = record {
   pipes = map items_of k.pipes.items;
   input = drop k.taken k.input.items;
   console = k.console.items;
+  limit = k.limit;
 }
 
 abbrev pub reserved_of : Inside → Reserved
@@ -38,11 +39,11 @@ reserved_of k = record {
   files = vec_capacity k.files;
   pipes = vec_capacity k.pipes;
   name = vec_capacity k.name;
-  console = vec_capacity k.console;
+  console = k.console.most;
   input = vec_capacity k.input - k.taken;
   contents = map held_of k.files.items;
   buffers = map capacity_of k.pipes.items;
 }
 
 abbrev pub disk_of : Inside → Disk
-disk_of k = record { state = state_of k; reserved = reserved_of k }
+disk_of k = record { state = state_of k; reserved = reserved_of k; gone = k.console.gone }

@@ -13,7 +13,8 @@ pub const O_CLOEXEC: u32 = 0x80000;
 impl FileSystem {
     /// close(2).
     pub fn close(&mut self, fd: u32) -> i32
-        ensures { close_of self.old.state fd ≡ answer self.new.state result [] }
+        ensures answer { close_of self.old.state fd ≡ answer self.new.state result [] }
+        ensures gone { self.new.gone ≡ self.old.gone }
     {
         if self.open_of(fd).is_none() {
             return EBADF;
@@ -24,7 +25,8 @@ impl FileSystem {
 
     /// dup(2).
     pub fn dup(&mut self, fd: u32) -> i32
-        ensures { dup_of self.old.state fd ≡ answer self.new.state result [] }
+        ensures answer { dup_of self.old.state fd ≡ answer self.new.state result [] }
+        ensures gone { self.new.gone ≡ self.old.gone }
     {
         let Some((number, _)) = self.open_of(fd) else {
             return EBADF;
@@ -38,7 +40,8 @@ impl FileSystem {
 
     /// dup3(2).
     pub fn dup3(&mut self, from: u32, to: u32, flags: u32) -> i32
-        ensures { dup3_of self.old.state from to flags ≡ answer self.new.state result [] }
+        ensures answer { dup3_of self.old.state from to flags ≡ answer self.new.state result [] }
+        ensures gone { self.new.gone ≡ self.old.gone }
     {
         if flags != 0 && flags != O_CLOEXEC {
             return EINVAL;

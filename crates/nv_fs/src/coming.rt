@@ -57,6 +57,7 @@ impl FileSystem {
     fn give_up(&mut self)
         ensures state { self.new.state ≡ self.old.state }
         ensures reserved { self.new.reserved ≡ record self.old.reserved { input = self.new.reserved.input } }
+        ensures gone { self.new.gone ≡ self.old.gone }
     {
         if self.taken >= self.input.as_slice().len() {
             self.input.clear();
@@ -69,6 +70,7 @@ impl FileSystem {
         ensures state { self.new.state ≡ self.old.state }
         ensures reserved { self.new.reserved ≡ record self.old.reserved { input = self.new.reserved.input } }
         ensures ok { OnOk result (length self.new.state.input + count ≤ self.new.reserved.input) }
+        ensures gone { self.new.gone ≡ self.old.gone }
     {
         self.give_up();
         self.input.reserve(count)
@@ -80,6 +82,7 @@ impl FileSystem {
         ensures state { self.new.state ≡ record self.old.state { input = self.old.state.input ++ bytes.now } }
         ensures reserved { self.new.reserved ≡ record self.old.reserved { input = self.new.reserved.input } }
         ensures room { self.old.reserved.input ≤ self.new.reserved.input }
+        ensures gone { self.new.gone ≡ self.old.gone }
     {
         add(&mut self.input, bytes);
     }

@@ -1,17 +1,21 @@
 // The tables, and what they are at the start.
-ghost use Rattle.std.specs.Prelude.{◌≡◌, IfOk, map, vec_len};
+ghost use Rattle.std.specs.Prelude.{◌≡◌, ◌+◌, ◌≤◌, IfOk, map, vec_len, length, drop};
 ghost use Rattle.nv_fs.specs.Views.{inode_of};
 ghost use Rattle.nv_fs.specs.States.{is_open};
-ghost use Rattle.nv_fs.specs.Starts.{first_state, first_descriptors, first_opens, inode_from};
+ghost use Rattle.nv_fs.specs.Starts.{first_state, first_descriptors, first_opens, inode_from, console_limit};
 
 use crate::open_file::{OpenFile, Target};
 use nv_blocks::Blocks;
 use nv_calls::MOST_BYTES;
+use nv_past::Past;
 use std::alloc::{AllocError, Global};
 use std::marker::Model;
 
 /// How many descriptors there are.
 pub const DESCRIPTORS: usize = 64;
+
+/// How many bytes the console takes in all, where the later calls aren't in the table.
+const CONSOLE: usize = 16_777_216;
 
 /// A file in memory: its name until it is unlinked, and its bytes.
 #[derive(Drop)]
@@ -20,7 +24,7 @@ pub struct MemoryFile {
     pub bytes: Blocks,
 }
 
-/// The files of a run, with the descriptors that name them. A free place in a table is used again. A read of a file gathers its bytes in `part`.
+/// The files of a run, with the descriptors that name them. A free place in a table is used again. The beginning of the console may be let go. A read of a file gathers its bytes in `part`.
 #[derive(Drop)]
 pub struct FileSystem {
     pub(crate) alloc: Global,
@@ -30,7 +34,8 @@ pub struct FileSystem {
     pub(crate) pipes: Vec<Vec<u8>>,
     pub(crate) input: Vec<u8>,
     pub(crate) taken: usize,
-    pub(crate) console: Vec<u8>,
+    pub(crate) console: Past<u8>,
+    pub(crate) limit: usize,
     pub(crate) name: Vec<u8>,
     pub(crate) part: Vec<u8>,
 }
@@ -66,6 +71,13 @@ fn first_descriptors() -> [Option<usize>; DESCRIPTORS]
     descriptors
 }
 
+#[tactic(auto, unfolding(crate::specs::Starts::console_limit))]
+fn console_limit(polls: bool) -> usize
+    ensures { result ≡ console_limit polls }
+{
+    if polls { usize::MAX } else { CONSOLE }
+}
+
 fn first_opens(alloc: Global) -> Result<Vec<OpenFile>, AllocError>
     ensures { IfOk result (λ made. made.items ≡ first_opens) }
 {
@@ -76,13 +88,16 @@ fn first_opens(alloc: Global) -> Result<Vec<OpenFile>, AllocError>
 }
 
 impl FileSystem {
-    /// The files with these names and contents, the input at descriptor 0 and the console at 1 and 2.
+    /// The files with these names and contents, the input at descriptor 0 and the console at 1 and 2. How many bytes the console takes
+    /// goes by whether the later calls are in the table.
     pub fn make(
         alloc: Global,
+        polls: bool,
         input: &Vec<u8>,
         files: &Vec<(Vec<u8>, Vec<u8>)>,
     ) -> Result<FileSystem, AllocError>
-        ensures { IfOk result (λ made. made.state ≡ first_state input.now.items (map inode_from files.now.items)) }
+        ensures state { IfOk result (λ made. made.state ≡ first_state polls input.now.items (map inode_from files.now.items)) }
+        ensures gone { IfOk result (λ made. made.gone ≡ 0) }
     {
         let input = Vec::from_slice(alloc, input.as_slice())?;
         let files = stored(alloc, files.as_slice())?;
@@ -96,7 +111,8 @@ impl FileSystem {
             pipes: Vec::new(alloc),
             input,
             taken: 0,
-            console: Vec::new(alloc),
+            console: Past::new(alloc),
+            limit: console_limit(polls),
             name: Vec::new(alloc),
             part,
         })
@@ -109,11 +125,29 @@ impl FileSystem {
         self.open_of(fd).is_some()
     }
 
-    /// The bytes on the console.
+    /// The bytes on the console that weren't let go.
     pub fn console(&self) -> &[u8]
-        ensures { result.now ≡ self.now.state.console }
+        ensures kept { result.now ≡ drop self.now.gone self.now.state.console }
+        ensures inside { self.now.gone + length result.now ≡ length self.now.state.console }
     {
-        self.console.as_slice()
+        self.console.kept()
+    }
+
+    /// How many bytes are on the console, with those that were let go.
+    pub fn printed(&self) -> usize
+        ensures { result ≡ length self.now.state.console }
+    {
+        self.console.len()
+    }
+
+    /// No byte of the console is there any more, but all of them count.
+    pub fn let_console_go(&mut self)
+        ensures state { self.new.state ≡ self.old.state }
+        ensures reserved { self.new.reserved ≡ record self.old.reserved { console = self.new.reserved.console } }
+        ensures room { self.old.reserved.console ≤ self.new.reserved.console }
+        ensures gone { self.new.gone ≡ length self.old.state.console }
+    {
+        self.console.let_go();
     }
 }
 

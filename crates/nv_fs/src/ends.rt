@@ -73,6 +73,7 @@ impl FileSystem {
         requires reserved { length self.old.state.pipes + 1 ≤ self.old.reserved.pipes }
         ensures state { self.new.state ≡ with_empty self.old.state k }
         ensures reserved { self.new.reserved.opens ≡ self.old.reserved.opens }
+        ensures gone { self.new.gone ≡ self.old.gone }
     {
         put_empty(self.alloc, &mut self.pipes, k);
     }
@@ -81,7 +82,8 @@ impl FileSystem {
         requires reading { reading < 64 }
         requires writing { writing < 64 }
         requires ready { CanPipe self.old }
-        ensures { self.new.state ≡ with_ends self.old.state (free_pipe self.old.state) reading writing }
+        ensures state { self.new.state ≡ with_ends self.old.state (free_pipe self.old.state) reading writing }
+        ensures gone { self.new.gone ≡ self.old.gone }
     {
         let k = self.free_pipe();
         self.make_pipe(k);
@@ -95,6 +97,7 @@ impl FileSystem {
         requires capacity { 8 ≤ out.old.capacity }
         ensures answer { pipe_of self.old.state flags ≡ answer self.new.state result out.new.bytes }
         ensures capacity { out.new.capacity ≡ out.old.capacity }
+        ensures gone { self.new.gone ≡ self.old.gone }
     {
         if flags & FLAGS != flags {
             return refuse(out, EINVAL);
@@ -115,6 +118,7 @@ impl FileSystem {
         ensures state { self.new.state ≡ self.old.state }
         ensures ready { OnOk result (CanPipe self.new) }
         ensures others { KeepsBlocks self.old self.new }
+        ensures gone { self.new.gone ≡ self.old.gone }
     {
         self.opens.reserve(2)?;
         self.pipes.reserve(1)?;

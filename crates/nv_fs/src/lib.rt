@@ -1,7 +1,7 @@
 //! Files as guests' calls see them: descriptors, shared open files, files in memory, pipes and the console.
 //! Types: `FileSystem`, `Opened`; module `parts`: parts of bytes, and bytes for which there is memory.
 //! Proved: each call gives the answer, the bytes and the state of its definition; the `reserve_` calls change nothing that
-//! can be seen, and the call after them can't fail.
+//! can be seen, and the call after them can't fail; what was let go of the console is still part of it in contracts.
 //! Above: both kernels, inspection.
 #![tactic(auto)]
 

@@ -81,6 +81,7 @@ impl FileSystem {
     fn truncate(&mut self, i: usize, flags: u32)
         ensures state { self.new.state ≡ truncated self.old.state i flags }
         ensures reserved { self.new.reserved.opens ≡ self.old.reserved.opens }
+        ensures gone { self.new.gone ≡ self.old.gone }
     {
         if has_flag(flags, O_TRUNC) && flags % 4 != 0 {
             self.empty(i);
@@ -90,6 +91,7 @@ impl FileSystem {
     fn empty(&mut self, i: usize)
         ensures state { self.new.state ≡ with_content self.old.state i [] }
         ensures reserved { self.new.reserved.opens ≡ self.old.reserved.opens }
+        ensures gone { self.new.gone ≡ self.old.gone }
     {
         if i < self.files.as_slice().len() {
             self.files[i].bytes.clear();
@@ -103,6 +105,7 @@ impl FileSystem {
         ensures state { self.new.state ≡ self.old.state }
         ensures opens { self.new.reserved.opens ≡ self.old.reserved.opens }
         ensures files { self.new.reserved.files ≡ self.old.reserved.files }
+        ensures gone { self.new.gone ≡ self.old.gone }
     {
         let mut held = mem::replace(&mut self.name, Vec::new(self.alloc));
         held.clear();
@@ -115,6 +118,7 @@ impl FileSystem {
         requires reserved { length self.old.state.files + 1 ≤ self.old.reserved.files }
         ensures state { self.new.state ≡ with_file self.old.state i name.items }
         ensures reserved { self.new.reserved.opens ≡ self.old.reserved.opens }
+        ensures gone { self.new.gone ≡ self.old.gone }
     {
         let file = MemoryFile {
             name: Some(name),
@@ -126,7 +130,8 @@ impl FileSystem {
     fn open_file(&mut self, fd: usize, i: usize, flags: u32) -> i32
         requires fd { fd < 64 }
         requires reserved { HasOpens self.old 1 }
-        ensures { open_file self.old.state fd i flags ≡ answer self.new.state result [] }
+        ensures answer { open_file self.old.state fd i flags ≡ answer self.new.state result [] }
+        ensures gone { self.new.gone ≡ self.old.gone }
     {
         self.install(fd, opened(i, flags));
         fd as i32
@@ -135,7 +140,8 @@ impl FileSystem {
     fn create(&mut self, fd: usize, name: &[u8], flags: u32) -> i32
         requires fd { fd < 64 }
         requires ready { CanOpen self.old name.now }
-        ensures { create self.old.state fd name.now flags ≡ answer self.new.state result [] }
+        ensures answer { create self.old.state fd name.now flags ≡ answer self.new.state result [] }
+        ensures gone { self.new.gone ≡ self.old.gone }
     {
         let i = self.free_file();
         if i >= FILES {
@@ -149,7 +155,8 @@ impl FileSystem {
     fn open_at_descriptor(&mut self, fd: usize, name: &[u8], file: Option<usize>, flags: u32) -> i32
         requires fd { fd < 64 }
         requires ready { CanOpen self.old name.now }
-        ensures { open_at_descriptor self.old.state (Some fd) name.now file flags ≡ answer self.new.state result [] }
+        ensures answer { open_at_descriptor self.old.state (Some fd) name.now file flags ≡ answer self.new.state result [] }
+        ensures gone { self.new.gone ≡ self.old.gone }
     {
         match file {
             None => self.create(fd, name, flags),
@@ -162,7 +169,8 @@ impl FileSystem {
 
     fn open_named(&mut self, name: &[u8], file: Option<usize>, flags: u32) -> i32
         requires ready { CanOpen self.old name.now }
-        ensures { open_unless (exclusive_error file flags) self.old.state name.now file flags ≡ answer self.new.state result [] }
+        ensures answer { open_unless (exclusive_error file flags) self.old.state name.now file flags ≡ answer self.new.state result [] }
+        ensures gone { self.new.gone ≡ self.old.gone }
     {
         if let Some(error) = refusal(file, flags) {
             return error;
@@ -176,7 +184,8 @@ impl FileSystem {
     /// openat(2), in the directory `/`.
     pub fn open_at(&mut self, dir: i32, path: &[u8], flags: u32) -> i32
         requires { CanOpen self.old path.now }
-        ensures { open_at_of self.old.state dir path.now flags ≡ answer self.new.state result [] }
+        ensures answer { open_at_of self.old.state dir path.now flags ≡ answer self.new.state result [] }
+        ensures gone { self.new.gone ≡ self.old.gone }
     {
         let name = match self.resolve(dir, path) {
             Ok(name) => name,
@@ -194,6 +203,7 @@ impl FileSystem {
         ensures state { self.new.state ≡ self.old.state }
         ensures ready { OnOk result (CanOpen self.new path.now) }
         ensures others { KeepsBlocks self.old self.new }
+        ensures gone { self.new.gone ≡ self.old.gone }
     {
         self.opens.reserve(1)?;
         self.files.reserve(1)?;
@@ -203,7 +213,8 @@ impl FileSystem {
     }
 
     fn unlink(&mut self, i: usize)
-        ensures { self.new.state ≡ unlinked self.old.state i }
+        ensures state { self.new.state ≡ unlinked self.old.state i }
+        ensures gone { self.new.gone ≡ self.old.gone }
     {
         if i < self.files.as_slice().len() {
             forget_name(&mut self.files[i]);
@@ -212,7 +223,8 @@ impl FileSystem {
 
     /// unlinkat(2).
     pub fn unlink_at(&mut self, dir: i32, path: &[u8], flags: u32) -> i32
-        ensures { unlink_at_of self.old.state dir path.now flags ≡ answer self.new.state result [] }
+        ensures answer { unlink_at_of self.old.state dir path.now flags ≡ answer self.new.state result [] }
+        ensures gone { self.new.gone ≡ self.old.gone }
     {
         let name = match self.resolve(dir, path) {
             Ok(name) => name,

@@ -49,7 +49,8 @@ fn hand_out_file(
 impl FileSystem {
     fn drop_input(&mut self, n: usize)
         requires { n ≤ length self.old.state.input }
-        ensures { self.new.state ≡ record self.old.state { input = drop n self.old.state.input } }
+        ensures state { self.new.state ≡ record self.old.state { input = drop n self.old.state.input } }
+        ensures gone { self.new.gone ≡ self.old.gone }
     {
         self.taken += n;
     }
@@ -66,6 +67,7 @@ impl FileSystem {
         requires capacity { MOST_BYTES ≤ out.old.capacity }
         ensures answer { read_input self.old.state n ≡ answer self.new.state result out.new.bytes }
         ensures capacity { out.new.capacity ≡ out.old.capacity }
+        ensures gone { self.new.gone ≡ self.old.gone }
     {
         let got = hand_out(self.input(), 0, n, out);
         self.drop_input(got);
@@ -85,6 +87,7 @@ impl FileSystem {
         requires capacity { MOST_BYTES ≤ out.old.capacity }
         ensures answer { read_file self.old.state number description i n ≡ answer self.new.state result out.new.bytes }
         ensures capacity { out.new.capacity ≡ out.old.capacity }
+        ensures gone { self.new.gone ≡ self.old.gone }
     {
         let got = hand_out_file(
             self.files.as_slice(),
@@ -100,7 +103,8 @@ impl FileSystem {
 
     fn drop_from_pipe(&mut self, k: usize, n: usize)
         requires { n ≤ length (pipe_at self.old.state k) }
-        ensures { self.new.state ≡ with_pipe self.old.state k (drop n (pipe_at self.old.state k)) }
+        ensures state { self.new.state ≡ with_pipe self.old.state k (drop n (pipe_at self.old.state k)) }
+        ensures gone { self.new.gone ≡ self.old.gone }
     {
         if k < self.pipes.as_slice().len() {
             drop_prefix(&mut self.pipes[k], n);
@@ -112,6 +116,7 @@ impl FileSystem {
         requires capacity { MOST_BYTES ≤ out.old.capacity }
         ensures answer { read_pipe self.old.state k n ≡ answer self.new.state result out.new.bytes }
         ensures capacity { out.new.capacity ≡ out.old.capacity }
+        ensures gone { self.new.gone ≡ self.old.gone }
     {
         if n == 0 {
             return refuse(out, 0);
@@ -137,6 +142,7 @@ impl FileSystem {
         requires capacity { MOST_BYTES ≤ out.old.capacity }
         ensures answer { read_target self.old.state number description description.target n ≡ answer self.new.state result out.new.bytes }
         ensures capacity { out.new.capacity ≡ out.old.capacity }
+        ensures gone { self.new.gone ≡ self.old.gone }
     {
         match description.target {
             Target::Input => self.read_input(n, out),
@@ -151,6 +157,7 @@ impl FileSystem {
         requires { MOST_BYTES ≤ out.old.capacity }
         ensures answer { read_of self.old.state fd count ≡ answer self.new.state result out.new.bytes }
         ensures capacity { out.new.capacity ≡ out.old.capacity }
+        ensures gone { self.new.gone ≡ self.old.gone }
     {
         let Some((number, description)) = self.open_of(fd) else {
             return refuse(out, EBADF);

@@ -49,6 +49,7 @@ impl FileSystem {
         requires capacity { 8 ≤ out.old.capacity }
         ensures answer { seek_from self.old.state number description base n ≡ answer self.new.state result out.new.bytes }
         ensures capacity { out.new.capacity ≡ out.old.capacity }
+        ensures gone { self.new.gone ≡ self.old.gone }
     {
         let Some(base) = base else {
             return refuse(out, EINVAL);
@@ -69,6 +70,7 @@ impl FileSystem {
         requires { 8 ≤ out.old.capacity }
         ensures answer { seek_of self.old.state fd high low whence ≡ answer self.new.state result out.new.bytes }
         ensures capacity { out.new.capacity ≡ out.old.capacity }
+        ensures gone { self.new.gone ≡ self.old.gone }
     {
         let Some((number, description)) = self.open_of(fd) else {
             return refuse(out, EBADF);

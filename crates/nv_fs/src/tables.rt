@@ -43,6 +43,7 @@ impl FileSystem {
         ensures state { self.new.state ≡ install self.old.state fd description }
         ensures reserved { self.old.reserved.opens ≤ self.new.reserved.opens }
         ensures len { length self.new.state.opens ≤ length self.old.state.opens + 1 }
+        ensures gone { self.new.gone ≡ self.old.gone }
     {
         let number = self.free_open();
         put_open(&mut self.opens, number, description);
@@ -52,7 +53,8 @@ impl FileSystem {
     /// The open file moves its offset.
     pub(crate) fn move_to(&mut self, number: usize, description: OpenFile, offset: usize)
         requires { number < length self.old.state.opens }
-        ensures { self.new.state ≡ moved_to self.old.state number description offset }
+        ensures state { self.new.state ≡ moved_to self.old.state number description offset }
+        ensures gone { self.new.gone ≡ self.old.gone }
     {
         self.opens[number] = OpenFile {
             offset,

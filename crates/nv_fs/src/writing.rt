@@ -14,8 +14,8 @@ use crate::parts::{append, prefix, reserve_to};
 use nv_calls::errors::{EAGAIN, EBADF, EFBIG, ENOSPC, EPIPE};
 use std::alloc::AllocError;
 
-/// How many bytes the console takes in all.
-const CONSOLE: usize = 16_777_216;
+/// How many bytes one write moves at most.
+const MOST_WRITTEN: usize = 0x7fff_f000;
 
 /// How many bytes a file has at most.
 const FILE: usize = 1_048_576;
@@ -26,22 +26,24 @@ const PIPE: usize = 4096;
 #[tactic(auto, unfolding(crate::specs::Stored::write_of, crate::specs::Reserved::CanWrite))]
 impl FileSystem {
     fn write_console(&mut self, bytes: &[u8]) -> i32
-        requires { length self.old.state.console + min (length bytes.now) (16777216 - length self.old.state.console) ≤ self.old.reserved.console }
-        ensures { write_console self.old.state 16777216 bytes.now ≡ answer self.new.state result [] }
+        requires { length self.old.state.console + min (length bytes.now) (self.old.state.limit - length self.old.state.console) ≤ self.old.reserved.console }
+        ensures answer { write_console self.old.state self.old.state.limit bytes.now ≡ answer self.new.state result [] }
+        ensures gone { self.new.gone ≡ self.old.gone }
     {
-        let used = self.console.as_slice().len();
-        if used >= CONSOLE {
+        let used = self.console.len();
+        if used >= self.limit {
             return ENOSPC;
         }
-        let part = prefix(bytes, CONSOLE - used);
-        append(&mut self.console, part);
+        let part = prefix(bytes, MOST_WRITTEN.min(self.limit - used));
+        self.console.append(part);
         part.len() as i32
     }
 
     fn put_at(&mut self, i: usize, place: usize, bytes: &[u8])
         requires fits { place + length bytes.now < 2 ^ 64 }
         requires reserved { HasBlocks self.old i place (length bytes.now) }
-        ensures { self.new.state ≡ with_content self.old.state i (with_bytes (bytes_of self.old.state i) place bytes.now) }
+        ensures state { self.new.state ≡ with_content self.old.state i (with_bytes (bytes_of self.old.state i) place bytes.now) }
+        ensures gone { self.new.gone ≡ self.old.gone }
     {
         if i < self.files.as_slice().len() {
             self.files[i].bytes.write_at(place, bytes);
@@ -62,7 +64,8 @@ impl FileSystem {
     fn write_file(&mut self, number: usize, description: OpenFile, i: usize, bytes: &[u8]) -> i32
         requires number { number < length self.old.state.opens }
         requires reserved { HasBlocks self.old i (start_of self.old.state description i) (min (length bytes.now) (1048576 - start_of self.old.state description i)) }
-        ensures { write_at self.old.state number description i 1048576 (start_of self.old.state description i) bytes.now ≡ answer self.new.state result [] }
+        ensures answer { write_at self.old.state number description i 1048576 (start_of self.old.state description i) bytes.now ≡ answer self.new.state result [] }
+        ensures gone { self.new.gone ≡ self.old.gone }
     {
         let start = self.start_of(description, i);
         if start >= FILE {
@@ -76,7 +79,8 @@ impl FileSystem {
 
     fn fill(&mut self, k: usize, bytes: &[u8])
         requires { k < length self.old.state.pipes → length (pipe_at self.old.state k) + length bytes.now ≤ slice_index self.old.reserved.buffers k }
-        ensures { self.new.state ≡ with_pipe self.old.state k (pipe_at self.old.state k ++ bytes.now) }
+        ensures state { self.new.state ≡ with_pipe self.old.state k (pipe_at self.old.state k ++ bytes.now) }
+        ensures gone { self.new.gone ≡ self.old.gone }
     {
         if k < self.pipes.as_slice().len() {
             append(&mut self.pipes[k], bytes);
@@ -86,7 +90,8 @@ impl FileSystem {
     fn write_pipe(&mut self, k: usize, bytes: &[u8]) -> i32
         requires some { 0 < length bytes.now }
         requires reserved { k < length self.old.state.pipes → length (pipe_at self.old.state k) + length bytes.now ≤ 4096 → length (pipe_at self.old.state k) + length bytes.now ≤ slice_index self.old.reserved.buffers k }
-        ensures { write_pipe self.old.state k 4096 bytes.now ≡ answer self.new.state result [] }
+        ensures answer { write_pipe self.old.state k 4096 bytes.now ≡ answer self.new.state result [] }
+        ensures gone { self.new.gone ≡ self.old.gone }
     {
         if !self.has_open(Target::Reader(k)) {
             return EPIPE;
@@ -102,7 +107,8 @@ impl FileSystem {
         requires number { number < length self.old.state.opens }
         requires reserved { IsReserved self.old description description.target (length bytes.now) }
         requires some { 0 < length bytes.now }
-        ensures { write_target self.old.state number description description.target bytes.now ≡ answer self.new.state result [] }
+        ensures answer { write_target self.old.state number description description.target bytes.now ≡ answer self.new.state result [] }
+        ensures gone { self.new.gone ≡ self.old.gone }
     {
         match description.target {
             Target::Console => self.write_console(bytes),
@@ -115,7 +121,8 @@ impl FileSystem {
     /// write(2).
     pub fn write(&mut self, fd: u32, bytes: &[u8]) -> i32
         requires { CanWrite self.old fd (length bytes.now) }
-        ensures { write_of self.old.state fd bytes.now ≡ answer self.new.state result [] }
+        ensures answer { write_of self.old.state fd bytes.now ≡ answer self.new.state result [] }
+        ensures gone { self.new.gone ≡ self.old.gone }
     {
         let Some((number, description)) = self.open_of(fd) else {
             return EBADF;
@@ -131,11 +138,12 @@ impl FileSystem {
 
     fn reserve_console(&mut self, n: usize) -> Result<(), AllocError>
         ensures state { self.new.state ≡ self.old.state }
-        ensures ok { OnOk result (length self.old.state.console + min n (16777216 - length self.old.state.console) ≤ self.new.reserved.console) }
+        ensures ok { OnOk result (length self.old.state.console + min n (self.old.state.limit - length self.old.state.console) ≤ self.new.reserved.console) }
         ensures others { KeepsBlocks self.old self.new }
+        ensures gone { self.new.gone ≡ self.old.gone }
     {
-        let used = self.console.as_slice().len();
-        let more = n.min(CONSOLE.saturating_sub(used));
+        let used = self.console.len();
+        let more = n.min(self.limit.saturating_sub(used));
         self.console.reserve(more)
     }
 
@@ -144,6 +152,7 @@ impl FileSystem {
         ensures state { self.new.state ≡ self.old.state }
         ensures ok { OnOk result (HasBlocks self.new i place n) }
         ensures others { (j k : ℕ) → IsBeside i place n j k → takes_memory self.new j k ≡ takes_memory self.old j k }
+        ensures gone { self.new.gone ≡ self.old.gone }
     {
         if i < self.files.as_slice().len() {
             self.files[i].bytes.reserve(place, n)
@@ -156,6 +165,7 @@ impl FileSystem {
         ensures state { self.new.state ≡ self.old.state }
         ensures ok { OnOk result (k < length self.old.state.pipes → most ≤ slice_index self.new.reserved.buffers k) }
         ensures others { KeepsBlocks self.old self.new }
+        ensures gone { self.new.gone ≡ self.old.gone }
     {
         if k < self.pipes.as_slice().len() {
             reserve_to(&mut self.pipes[k], most)
@@ -168,6 +178,7 @@ impl FileSystem {
         ensures state { self.new.state ≡ self.old.state }
         ensures ok { OnOk result (HasBlocks self.new i (start_of self.old.state description i) (min n (1048576 - start_of self.old.state description i))) }
         ensures others { (j k : ℕ) → IsBeside i (start_of self.old.state description i) (min n (1048576 - start_of self.old.state description i)) j k → takes_memory self.new j k ≡ takes_memory self.old j k }
+        ensures gone { self.new.gone ≡ self.old.gone }
     {
         let start = self.start_of(description, i);
         if start >= FILE {
@@ -180,6 +191,7 @@ impl FileSystem {
         ensures state { self.new.state ≡ self.old.state }
         ensures ok { OnOk result (k < length self.old.state.pipes → length (pipe_at self.old.state k) + n ≤ 4096 → length (pipe_at self.old.state k) + n ≤ slice_index self.new.reserved.buffers k) }
         ensures others { KeepsBlocks self.old self.new }
+        ensures gone { self.new.gone ≡ self.old.gone }
     {
         let used = self.buffer(k).len();
         if n > PIPE.saturating_sub(used) {
@@ -192,6 +204,7 @@ impl FileSystem {
         ensures state { self.new.state ≡ self.old.state }
         ensures ok { OnOk result (IsReserved self.new description description.target n) }
         ensures others { (j k : ℕ) → IsUntouchedBlock self.old.state description description.target n j k → takes_memory self.new j k ≡ takes_memory self.old j k }
+        ensures gone { self.new.gone ≡ self.old.gone }
     {
         match description.target {
             Target::Console => self.reserve_console(n),
@@ -206,6 +219,7 @@ impl FileSystem {
         ensures state { self.new.state ≡ self.old.state }
         ensures ready { OnOk result (CanWrite self.new fd count) }
         ensures others { KeepsOthers self.old self.new fd count }
+        ensures gone { self.new.gone ≡ self.old.gone }
     {
         let Some((_, description)) = self.open_of(fd) else {
             return Ok(());

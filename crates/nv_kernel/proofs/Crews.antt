@@ -1,6 +1,6 @@
 -- The threads that live, from call to call.
-use Rattle.std.proofs.Common.{◌≡◌, ◌∙◌, sym, ap, subst, refl, ℕ, ◌+◌, ◌≤◌, ◌<◌, ℤ, pos, negsuc, Bool, true, false, cond, ◌==◌, ◌&&◌, not, nat_lt, List, [], ◌∷◌, ◌++◌, length, Option, Some, None, arith}
-use Rattle.std.specs.Prelude.{slice_index, filter, Contains}
+use Rattle.std.proofs.Common.{◌≡◌, ◌∙◌, sym, ap, subst, refl, ℕ, ◌+◌, ◌≤◌, ℤ, pos, Bool, true, false, cond, ◌==◌, not, nat_lt, List, [], ◌∷◌, length, Option, None, arith}
+use Rattle.std.specs.Prelude.{slice_index, filter}
 use Rattle.std.proofs.lemmas.Bool.Decides.{nat_tests}
 use Rattle.nv_calls.specs.declared.numbers.Syscall.{Syscall}
 use Rattle.nv_calls.specs.declared.numbers.Syscall.TheVariants.{Ioctl, Readv, Writev, Clone, Exit, ExitGroup, ClockGettime64}
@@ -10,7 +10,7 @@ use Rattle.nv_calls.specs.Numbers.{syscall_of, has_range}
 use Rattle.nv_calls.specs.Shapes.{IsShaped}
 use Rattle.nv_calls.specs.Logs.{made, with_child, IsNew}
 use Rattle.nv_fs.specs.States.{is_open}
-use Rattle.nv_kernel.specs.Crew.{Crew, IsCrew, clone_as, clone_of, may_clone, exit_of, with_none_live}
+use Rattle.nv_kernel.specs.Crew.{Crew, IsCrew, clone_as, may_clone}
 use Rattle.nv_kernel.proofs.CrewLaws.{clone_crew, exit_crew, clone_new}
 use Rattle.nv_kernel.proofs.ReplyLaws.{good}
 use Rattle.nv_kernel.specs.Serving.{State, Served, replied, counted, answered, serve, state_after}

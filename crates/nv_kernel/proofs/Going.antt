@@ -1,13 +1,12 @@
 -- From call to call: how many were served, and what is printed.
 use Rattle.std.proofs.Common.{◌≡◌, ◌∙◌, ap, refl, ℕ, ℤ, pos, negsuc, ◌+◌, Bool, true, false, cond, ◌==◌, ◌&&◌, not, nat_lt, List, [], ◌∷◌, ◌++◌, length, Option, Some, None, arith}
 use Rattle.std.specs.Prelude.{slice_index}
-use Rattle.std.proofs.lemmas.Bool.Decides.{nat_tests}
 use Rattle.nv_calls.specs.declared.numbers.Syscall.{Syscall}
-use Rattle.nv_calls.specs.declared.numbers.Syscall.TheVariants.{Ioctl, Readv, Writev, Clone, ClockGettime64}
+use Rattle.nv_calls.specs.declared.numbers.Syscall.TheVariants.{Ioctl, Readv, Writev, ClockGettime64}
 use Rattle.nv_calls.specs.Calls.{Request, Entry}
 use Rattle.nv_calls.specs.Errors.{EFAULT}
 use Rattle.nv_calls.specs.Numbers.{syscall_of}
-use Rattle.nv_calls.specs.Logs.{made, calls_of, call_of, output_of, served, child_of}
+use Rattle.nv_calls.specs.Logs.{made, calls_of, call_of, output_of}
 use Rattle.nv_fs.specs.States.{is_open}
 use Rattle.nv_script.specs.Scripts.{Setup}
 use Rattle.nv_kernel.specs.Serving.{State, Served, replied, answered, serve, state_after, reply_of, first_state, start_of_script}

@@ -1,5 +1,5 @@
 -- The last item of a list, and of what it is mapped to.
-use Rattle.std.proofs.Common.{◌≡◌, ◌∙◌, ap, refl, List, [], ◌∷◌, ◌++◌, length, map, drop, arith}
+use Rattle.std.proofs.Common.{◌≡◌, ap, refl, List, [], ◌∷◌, ◌++◌, length, map, drop, arith}
 use Rattle.std.proofs.lemmas.List.{length-append}
 
 -- what is the last of a list is mapped to the last

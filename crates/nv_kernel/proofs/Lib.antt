@@ -10,3 +10,4 @@ pub mod Randoms
 pub mod Logging
 pub mod Standings
 mod Lasts
+pub mod Wholes

@@ -1,18 +1,22 @@
 -- Where the devices stand, from call to call.
-use Rattle.std.proofs.Common.{◌≡◌, ◌∙◌, sym, ap, subst, refl, ℕ, ℤ, ◌<◌, List, [], ◌∷◌, ◌++◌, length, arith}
+use Rattle.std.proofs.Common.{◌≡◌, ◌∙◌, sym, ap, subst, ℕ, ℤ, ◌<◌, List, [], ◌∷◌, ◌++◌, arith}
 use Rattle.std.proofs.lemmas.List.{length-map}
 use Rattle.nv_calls.specs.Calls.{Request, Response, Entry}
-use Rattle.nv_calls.specs.Logs.{Start, IsNew, made, served, child_of, calls_of, call_of, live_after, live_next}
+use Rattle.nv_calls.specs.Logs.{IsNew, made, served, child_of, calls_of, call_of, live_after, live_next}
 use Rattle.nv_calls.specs.Shapes.{IsShaped}
 use Rattle.nv_calls.proofs.LogLaws.{live_more}
 use Rattle.nv_script.specs.Scripts.{Setup}
-use Rattle.nv_kernel.specs.Answering.{MayCome, IsAnswer}
-use Rattle.nv_kernel.specs.Crew.{Crew, IsCrew}
-use Rattle.nv_kernel.specs.Serving.{State, Served, start_of_script, first_state, state_after, serve, reply_of}
+use Rattle.nv_kernel.specs.Answering.{AtLog, MayCome, IsAnswer}
+use Rattle.nv_kernel.specs.Crew.{IsCrew}
+use Rattle.nv_kernel.specs.Serving.{State, Served, start_of_script, first_state, serve, reply_of}
 use Rattle.nv_kernel.specs.Standing.{StandsAt}
 use Rattle.nv_kernel.proofs.CrewLaws.{first_is}
 use Rattle.nv_kernel.proofs.Crews.{CrewStep, crew_step, few_clones_after, live_by}
 use Rattle.nv_kernel.proofs.Going.{log_more, log_count, reply_is}
+
+-- the logs at which a state is the one that their calls leave
+abbrev pub at_log : State → AtLog
+at_log s = λ setup log. StandsAt setup log s
 
 -- before the first call
 pub stands_first : (setup : Setup) (s : State) → s ≡ first_state setup → StandsAt setup [] s

@@ -8,3 +8,4 @@ pub mod Codes
 pub mod Answering
 pub mod Logged
 pub mod Standing
+pub mod Whole

@@ -168,7 +168,7 @@ named_inode file = record { name = Some file.0; bytes = file.1 }
 -- what a script gives: the input, the files, the clock and the generator's first state
 abbrev pub first_state : Setup → State
 first_state setup = record {
-  files = begun.first_state setup.input (map named_inode setup.files);
+  files = begun.first_state setup.polls setup.input (map named_inode setup.files);
   crew = first_crew;
   served = 0;
   start = setup.seconds * second + setup.nanos;

@@ -75,10 +75,6 @@ pub trait Answers: Send + Drop {
     /// Whether no thread lives.
     fn is_over(&self) -> bool
         ensures { (setup : Setup) (log : List Entry) → stands self.now setup log → result ≡ (length (live_after log) == 0) };
-
-    /// The bytes on the console.
-    fn console(&self) -> &[u8]
-        ensures { (setup : Setup) (log : List Entry) → stands self.now setup log → result.now ≡ output_of (known setup self.now) log };
 }
 
 /// What a script gives at the beginning of a run.
@@ -89,8 +85,12 @@ pub trait FromScript: Answers {
         ensures { IfOk result (λ made. Self.stands made (setup_of script.now) []) };
 }
 
-/// A kernel over it keeps each event of its log, so that it can be reported and recorded.
+/// A kernel over it keeps each event of its log and each byte of its console, so that it can be reported and recorded.
 pub trait KeepsAll: Answers {
+    /// The bytes on the console.
+    fn console(&self) -> &[u8]
+        ensures { (setup : Setup) (log : List Entry) → Self.stands self.now setup log → result.now ≡ output_of (Self.known setup self.now) log };
+
     ghost all_kept: { Self.keeps_all ≡ true };
 }
 

@@ -39,9 +39,10 @@ pub struct Devices {
 impl Devices {
     /// What a script gives.
     pub fn make(alloc: Global, script: &Script) -> Result<Devices, AllocError>
-        ensures { IfOk result (λ made. state_of made ≡ first_state (setup_of script.now)) }
+        ensures state { IfOk result (λ made. state_of made ≡ first_state (setup_of script.now)) }
+        ensures gone { IfOk result (λ made. made.files.gone ≡ 0) }
     {
-        let files = FileSystem::make(alloc, &script.input, &script.files)?;
+        let files = FileSystem::make(alloc, script.polls, &script.input, &script.files)?;
         Ok(Devices {
             files,
             threads: LiveThreads::first(),
@@ -89,6 +90,7 @@ impl Devices {
         requires { MOST_BYTES ≤ out.old.capacity }
         ensures answer { unless_many (state_of self.old) count (of_files (state_of self.old) (read_of self.old.files.state fd capacity)) ≡ record { state = state_of self.new; ret = result; payload = out.new.bytes } }
         ensures capacity { out.new.capacity ≡ out.old.capacity }
+        ensures gone { self.new.files.gone ≡ self.old.files.gone }
     {
         if count > MOST_VECTORS {
             return only(EINVAL, out);
@@ -99,7 +101,8 @@ impl Devices {
     // writev(2), of vectors that hold these bytes.
     fn write_vectors(&mut self, fd: u32, count: u32, bytes: &[u8]) -> i32
         requires { CanWrite self.old.files fd (length bytes.now) }
-        ensures { unless_many (state_of self.old) count (of_files (state_of self.old) (write_of self.old.files.state fd bytes.now)) ≡ record { state = state_of self.new; ret = result; payload = [] } }
+        ensures answer { unless_many (state_of self.old) count (of_files (state_of self.old) (write_of self.old.files.state fd bytes.now)) ≡ record { state = state_of self.new; ret = result; payload = [] } }
+        ensures gone { self.new.files.gone ≡ self.old.files.gone }
     {
         if count > MOST_VECTORS {
             return EINVAL;
@@ -128,6 +131,7 @@ impl Devices {
         ensures answer { randomly (state_of self.old) n ≡ record { state = state_of self.new; ret = result; payload = out.new.bytes } }
         ensures capacity { out.new.capacity ≡ out.old.capacity }
         ensures few { length out.new.bytes ≡ n }
+        ensures gone { self.new.files.gone ≡ self.old.files.gone }
     {
         let mut bytes = [0; MOST_BYTES as usize];
         let part = &mut bytes[..n as usize];
@@ -138,7 +142,8 @@ impl Devices {
 
     // exit(2).
     fn end(&mut self, tid: u32) -> i32
-        ensures { of_crew (state_of self.old) (pos 0, exit_of (state_of self.old).crew tid) ≡ record { state = state_of self.new; ret = result; payload = [] } }
+        ensures answer { of_crew (state_of self.old) (pos 0, exit_of (state_of self.old).crew tid) ≡ record { state = state_of self.new; ret = result; payload = [] } }
+        ensures gone { self.new.files.gone ≡ self.old.files.gone }
     {
         self.threads.end(tid);
         0
@@ -146,7 +151,8 @@ impl Devices {
 
     // exit_group(2).
     fn end_all(&mut self) -> i32
-        ensures { of_crew (state_of self.old) (pos 0, with_none_live (state_of self.old).crew) ≡ record { state = state_of self.new; ret = result; payload = [] } }
+        ensures answer { of_crew (state_of self.old) (pos 0, with_none_live (state_of self.old).crew) ≡ record { state = state_of self.new; ret = result; payload = [] } }
+        ensures gone { self.new.files.gone ≡ self.old.files.gone }
     {
         self.threads.end_all();
         0
@@ -161,6 +167,7 @@ impl Devices {
         ensures answer { answered syscall (state_of self.old) (request call.now) ≡ record { state = state_of self.new; ret = result; payload = out.new.bytes } }
         ensures capacity { out.new.capacity ≡ out.old.capacity }
         ensures few { length out.new.bytes ≤ most_out_by syscall (request call.now).args }
+        ensures gone { self.new.files.gone ≡ self.old.files.gone }
     {
         let args = call.args;
         let bytes = call.payload.as_slice();
@@ -206,6 +213,7 @@ impl Devices {
         ensures answer { unless_bad (state_of self.old) (request call.now) ≡ record { state = state_of self.new; ret = result; payload = out.new.bytes } }
         ensures capacity { out.new.capacity ≡ out.old.capacity }
         ensures few { length out.new.bytes ≤ most_out (request call.now) }
+        ensures gone { self.new.files.gone ≡ self.old.files.gone }
     {
         out.set(&[]);
         if call.bad {
@@ -224,6 +232,7 @@ impl Devices {
         ensures answer { serve (state_of self.old) (request call.now) ≡ record { state = state_of self.new; ret = result; payload = out.new.bytes } }
         ensures capacity { out.new.capacity ≡ out.old.capacity }
         ensures few { length out.new.bytes ≤ most_out (request call.now) }
+        ensures gone { self.new.files.gone ≡ self.old.files.gone }
     {
         let ret = self.answer_unless_bad(call, out);
         self.served += 1;
@@ -234,6 +243,7 @@ impl Devices {
         requires few { length call.now.payload.bytes ≤ MOST_BYTES }
         ensures state { state_of self.new ≡ state_of self.old }
         ensures ready { OnOk result (can_answer syscall self.new.files (request call.now)) }
+        ensures gone { self.new.files.gone ≡ self.old.files.gone }
     {
         let args = call.args;
         let bytes = call.payload.as_slice();
@@ -254,6 +264,7 @@ impl Devices {
         requires few { length call.now.payload.bytes ≤ MOST_BYTES }
         ensures state { state_of self.new ≡ state_of self.old }
         ensures ready { OnOk result (CanAnswer self.new.files (request call.now)) }
+        ensures gone { self.new.files.gone ≡ self.old.files.gone }
     {
         self.reserve_as(Syscall::of(call.nr), call)
     }

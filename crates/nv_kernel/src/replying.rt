@@ -12,6 +12,7 @@ impl Answers for Devices {
     ghost use Rattle.nv_kernel.specs.Reserved.{state_of, CanAnswer};
     ghost use Rattle.nv_kernel.specs.Serving.{start_of_script};
     ghost use Rattle.nv_kernel.specs.Standing.{StandsAt};
+    ghost use Rattle.nv_kernel.specs.Whole.{IsWhole};
 
     ghost Beginning = { Setup };
 
@@ -22,7 +23,7 @@ impl Answers for Devices {
     // A script tells all that comes.
     ghost known = { λ setup _. start_of_script setup };
 
-    ghost stands = { λ d setup log. StandsAt setup log (state_of d) };
+    ghost stands = { λ d. IsWhole (λ setup log. StandsAt setup log (state_of d)) d.files.gone };
 
     ghost is_ready = { λ d c. CanAnswer d.files c };
 
@@ -43,10 +44,6 @@ impl Answers for Devices {
     fn is_over(&self) -> bool {
         self.is_over()
     }
-
-    fn console(&self) -> &[u8] {
-        self.files.console()
-    }
 }
 
 impl FromScript for Devices {
@@ -59,6 +56,10 @@ impl KeepsAll for Devices {
     ghost use Rattle.std.specs.Prelude.{refl};
 
     ghost all_kept = { refl };
+
+    fn console(&self) -> &[u8] {
+        self.files.console()
+    }
 }
 
 impl Foretold for Devices {

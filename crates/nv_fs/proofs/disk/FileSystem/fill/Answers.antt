@@ -2,8 +2,8 @@ use Rattle.std.proofs.Common.{◌∙◌, ap, ℕ, ◌<◌, ◌++◌, List, lengt
 use Rattle.nv_fs.proofs.Places.{pipe_is, pipe_changed}
 use Rattle.nv_fs.proofs.disk.FileSystem.fill.Goals as goal
 
-pub returns-then-k-as_slice : goal.returns-then-k-as_slice
-returns-then-k-as_slice c =
+pub returns-then-k-as_slice-clause-state : goal.returns-then-k-as_slice-clause-state
+returns-then-k-as_slice-clause-state c =
     let inside : c.args.k < length c.self.inside.pipes.items = (let e = ap length c.as_slice.ensures.value in omega arith) in
     let held = pipe_is c.self.inside c.args.self.now c.args.k c.index_mut.result.now c.self.view_is inside c.index_mut.ensures.value in
     pipe_changed c.self.inside c.args.self.now c.args.k c.append.new.held _ c.self.view_is (c.append.ensures ∙ ap (λ (z : List ℕ). z ++ c.args.bytes.now) held)

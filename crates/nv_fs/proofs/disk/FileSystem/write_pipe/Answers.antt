@@ -10,10 +10,10 @@ pub fill-requires : goal.fill-requires
 fill-requires c =
     let held = ap length c.buffer.ensures in λ l. c.requires.reserved l (omega arith)
 
-pub returns : goal.returns
-returns c =
+pub returns-clause-answer : goal.returns-clause-answer
+returns-clause-answer c =
     let held = ap length c.buffer.ensures in
     let fits : length (pipe_at c.args.self.now.state c.args.k) + length c.args.bytes.now ≤ 4096 = omega arith in
     let reader : has_open c.args.self.now.state (Reader c.args.k) ≡ true = search rules in
     let back : to_z w32 (length c.args.bytes.now) ≡ pos (length c.args.bytes.now) = search rules in
-    pipe_written c.args.self.now.state c.args.k c.args.bytes.now reader fits ∙ (λ j. answer (sym c.fill.ensures j) (sym back j) [])
+    pipe_written c.args.self.now.state c.args.k c.args.bytes.now reader fits ∙ (λ j. answer (sym c.fill.ensures.state j) (sym back j) [])

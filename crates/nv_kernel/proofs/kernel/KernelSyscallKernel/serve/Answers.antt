@@ -1,4 +1,4 @@
-use Rattle.std.proofs.Common.{rules, ◌≡◌, ◌∙◌, sym, ap, subst, ℕ, Bool, ◌<◌, ◌==◌, ◌++◌, ◌∷◌, [], List, Option, None, length, map, arith, to_z, of_z, w32}
+use Rattle.std.proofs.Common.{rules, ◌≡◌, ◌∙◌, sym, ap, subst, ℕ, ◌<◌, ◌++◌, ◌∷◌, [], List, Option, None, length, map, arith, to_z, of_z, w32}
 use Rattle.std.proofs.lemmas.List.{length-map}
 use Rattle.std.specs.Prelude.{Contains, option_map}
 use Rattle.nv_calls.specs.Calls.{Entry, Request, entry, request}
