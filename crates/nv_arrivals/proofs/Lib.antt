@@ -4,5 +4,6 @@ pub mod Texts
 pub mod ReadBack
 pub mod Sound
 pub mod Cutting
+pub mod Going
 pub mod Orderly
 pub mod Plain

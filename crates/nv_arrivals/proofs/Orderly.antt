@@ -1,5 +1,5 @@
 -- What may come after one another, in two parts, and one by one.
-use Rattle.std.proofs.Common.{◌≡◌, true, List, [], ◌∷◌, ◌++◌, Result, Ok, Err, refl, ap, ◌∙◌}
+use Rattle.std.proofs.Common.{◌≡◌, ℕ, true, List, [], ◌∷◌, ◌++◌, Result, Ok, Err, refl, ap, ◌∙◌}
 use Rattle.std.specs.List.{list_all}
 use Rattle.std.proofs.lemmas.Bool.{and_from}
 use Rattle.nv_arrivals.specs.declared.arrival.ArrivalCause.{ArrivalCause}
@@ -37,6 +37,6 @@ pub after-more : (xs : List Arrival) (a : Arrival) (start came next : Came) → 
 after-more xs a start came next so_far more = after-append xs (a ∷ []) start ∙ ap (λ r. onward r (λ c. after (a ∷ []) c)) so_far ∙ after-one a came ∙ more
 
 -- within their limits, and each in its order
-pub are_arrivals-from : (arrivals : List Arrival) (came : Came) → list_all is_arrival arrivals ≡ true → after arrivals nothing_came ≡ Ok came → are_arrivals arrivals ≡ true
+pub are_arrivals-from : (most : ℕ) (arrivals : List Arrival) (came : Came) → list_all is_arrival arrivals ≡ true → after arrivals (nothing_came most) ≡ Ok came → are_arrivals most arrivals ≡ true
 unfolding are_arrivals
-are_arrivals-from arrivals came sound e = and_from (list_all is_arrival arrivals) (are_orderly arrivals) sound (rw e refl)
+are_arrivals-from most arrivals came sound e = and_from (list_all is_arrival arrivals) (are_orderly most arrivals) sound (rw e refl)

@@ -90,12 +90,13 @@ plain_limits reads = are-arrivals (flat_map (pieces 2000) reads) (parts-within 2
 
 -- ---- the order
 
-input-after : (parts : List (List ℕ)) → after (map Input parts) nothing_came ≡ Ok nothing_came
+input-after : (clients : ℕ) (parts : List (List ℕ)) → after (map Input parts) (nothing_came clients) ≡ Ok (nothing_came clients)
 unfolding after
-input-after [] = refl
-input-after (part ∷ parts) = input-after parts
+input-after clients [] = refl
+input-after clients (part ∷ parts) = input-after clients parts
 
-pub plain_order : (most : ℕ) (reads : List (List ℕ)) → are_orderly (input_of most reads ++ InputEnd ∷ []) ≡ true
-plain_order most reads =
-    let all = after-append (input_of most reads) (InputEnd ∷ []) nothing_came ∙ ap (λ r. onward r (λ c. after (InputEnd ∷ []) c)) (input-after (flat_map (pieces most) reads)) ∙ after-one InputEnd nothing_came in
+pub plain_order : (clients most : ℕ) (reads : List (List ℕ)) → are_orderly clients (input_of most reads ++ InputEnd ∷ []) ≡ true
+plain_order clients most reads =
+    let all = after-append (input_of most reads) (InputEnd ∷ []) (nothing_came clients)
+    ∙ ap (λ r. onward r (λ c. after (InputEnd ∷ []) c)) (input-after clients (flat_map (pieces most) reads)) ∙ after-one InputEnd (nothing_came clients) in
     rw all refl

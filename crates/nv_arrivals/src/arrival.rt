@@ -4,9 +4,6 @@
 /// it whole.
 pub const MOST_ARRIVAL: usize = 2000;
 
-/// The most clients of a run whose clients come one by one.
-pub const MOST_CLIENTS: usize = 65_536;
-
 /// What comes from outside. Clients are numbered from 0 in the order in which they connect.
 #[derive(Drop)]
 pub enum Arrival {
@@ -37,6 +34,6 @@ pub enum ArrivalCause {
     Range,
     /// Bytes or an end of what has ended.
     Twice,
-    /// More than 2,000 bytes, or more than 65,536 clients.
+    /// More than 2,000 bytes, or one client more than may come.
     Long,
 }

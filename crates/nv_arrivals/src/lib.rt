@@ -14,7 +14,7 @@ mod reading;
 mod word;
 mod writing;
 
-pub use arrival::{Arrival, ArrivalCause, MOST_ARRIVAL, MOST_CLIENTS};
+pub use arrival::{Arrival, ArrivalCause, MOST_ARRIVAL};
 pub use laws::plain_input_comes;
 pub use order::Order;
 pub use outside::{Outside, Said};

@@ -1,50 +1,94 @@
 // Which arrivals may come next.
-ghost use Rattle.std.specs.Prelude.{◌≡◌, IfOk, OnErr};
-ghost use Rattle.std.specs.List.{slice_get};
-ghost use Rattle.nv_arrivals.specs.Order.{nothing_came, sending, with_client, client_ended, input_ended, clients_ended, input_going, admitted};
+ghost use Rattle.std.specs.Prelude.{◌≡◌, ◌<◌, ◌≤◌, ◌^◌, is_some, IfOk, IfSome, OnErr, length, get_or};
+ghost use Rattle.nv_arrivals.specs.Order.{most_clients, nothing_came, is_going, not_going, sending, with_client, client_ended, input_ended, clients_ended, input_going, admitted};
 ghost use Rattle.nv_arrivals.specs.Views.{view};
 ghost use Rattle.nv_arrivals.specs.inner.Views.{became};
 
-use crate::arrival::{Arrival, ArrivalCause, MOST_CLIENTS};
+use crate::arrival::{Arrival, ArrivalCause};
 use std::alloc::{AllocError, Global};
 use std::marker::Model;
 
-/// What has come: whether descriptor 0 and the clients are at their end, and of each client whether it has sent all.
+/// How many clients may come: 65,536, or by the fifth form of a script as many as there are numbers of 32 bits.
+#[tactic(auto, unfolding(crate::specs::Order::most_clients))]
+fn most_clients(polls: bool) -> u64
+    ensures most { result ≡ most_clients polls }
+    ensures few { result ≤ 2 ^ 32 }
+{
+    if polls { 1 << 32 } else { 65_536 }
+}
+
+/// What has come: whether descriptor 0 and the clients are at their end, how many clients have come, and the numbers of those of them that haven't
+/// sent all, as they came. Of a client that has sent all nothing is kept.
 #[derive(Drop)]
 pub struct Order {
     input_over: bool,
     clients_over: bool,
-    clients: Vec<bool>,
+    clients: u64,
+    going: Vec<u32>,
+    polls: bool,
 }
 
 impl Model for Order {
     ghost use Rattle.nv_arrivals.specs.Order as rule;
+    ghost use Rattle.nv_arrivals.specs.inner.Going.{AreGoing};
 
     ghost Value = { rule.Came };
 
-    ghost view = { λ order. record { input_over = order.input_over; clients_over = order.clients_over; clients = order.clients.items } };
+    ghost view = { λ order. record {
+      input_over = order.input_over;
+      clients_over = order.clients_over;
+      clients = order.clients;
+      going = order.going.items;
+      most = rule.most_clients order.polls;
+    } };
+
+    ghost invariant = { λ order. AreGoing order.clients order.going.items };
 }
 
 impl Order {
-    /// Nothing has come.
-    pub fn new(alloc: Global) -> Order
-        ensures { result ≡ nothing_came }
+    /// Nothing has come. In a script of the fifth form, whose calls wait for several things at once, more clients may come.
+    pub fn new(alloc: Global, polls: bool) -> Order
+        ensures { result ≡ nothing_came (most_clients polls) }
     {
         Order {
             input_over: false,
             clients_over: false,
-            clients: Vec::new(alloc),
+            clients: 0,
+            going: Vec::new(alloc),
+            polls,
+        }
+    }
+
+    // Why nothing may come from a client that isn't going.
+    fn not_going(&self, client: u32) -> ArrivalCause
+        ensures { result ≡ not_going client self.now }
+    {
+        if u64::from(client) < self.clients {
+            ArrivalCause::Twice
+        } else {
+            ArrivalCause::Range
+        }
+    }
+
+    // Where the client is among those that haven't sent all.
+    fn place(&self, client: u32) -> Option<usize>
+        ensures going { is_some result ≡ is_going client self.now.going }
+        ensures place { IfSome result (λ at. (at < length self.now.going) × (get_or self.now.going at 0 ≡ client)) }
+    {
+        match self.going.binary_search(&client) {
+            Ok(at) => Some(at),
+            Err(_) => None,
         }
     }
 
     // Whether more may come from the client.
     fn check(&self, client: u32) -> Result<(), ArrivalCause>
-        ensures { became self.now result ≡ sending (slice_get self.now.clients client) self.now }
+        ensures { became self.now result ≡ sending client self.now }
     {
-        match self.clients.get(client as usize) {
-            None => Err(ArrivalCause::Range),
-            Some(true) => Err(ArrivalCause::Twice),
-            Some(false) => Ok(()),
+        if self.place(client).is_some() {
+            Ok(())
+        } else {
+            Err(self.not_going(client))
         }
     }
 
@@ -57,10 +101,11 @@ impl Order {
         if self.clients_over {
             return Ok(Err(ArrivalCause::Twice));
         }
-        if self.clients.len() >= MOST_CLIENTS {
+        if self.clients >= most_clients(self.polls) {
             return Ok(Err(ArrivalCause::Long));
         }
-        self.clients.push(false)?;
+        self.going.push(self.clients as u32)?;
+        self.clients += 1;
         Ok(Ok(()))
     }
 
@@ -68,9 +113,13 @@ impl Order {
         ensures ended { became self.new result ≡ client_ended client self.old }
         ensures kept { OnErr result (self.new ≡ self.old) }
     {
-        self.check(client)?;
-        self.clients[client as usize] = true;
-        Ok(())
+        match self.place(client) {
+            Some(at) => {
+                self.going.remove(at);
+                Ok(())
+            }
+            None => Err(self.not_going(client)),
+        }
     }
 
     fn end_input(&mut self) -> Result<(), ArrivalCause>

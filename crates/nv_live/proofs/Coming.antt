@@ -11,7 +11,7 @@ use Rattle.std.proofs.lemmas.List.Sums.{prefix_len_stops, sum_by-append, sum_by-
 use Rattle.std.proofs.lemmas.List.Folds.{list_all-append, list_any-append, concat-append}
 use Rattle.nv_arrivals.specs.declared.arrival.ArrivalCause.{ArrivalCause}
 use Rattle.nv_arrivals.specs.Arrivals.{Arrival, is_arrival}
-use Rattle.nv_arrivals.specs.Order.{Came, nothing_came, admitted, after}
+use Rattle.nv_arrivals.specs.Order.{Came, most_clients, nothing_came, admitted, after}
 use Rattle.nv_arrivals.specs.Reading.{arrival_of}
 use Rattle.nv_arrivals.proofs.Orderly.{after-none, after-more}
 use Rattle.nv_outside.specs.Counts.{raised}
@@ -28,7 +28,7 @@ use Rattle.nv_live.proofs.Taking.{gave-none, gave-then}
 
 -- ---- nothing has come
 
-come-none : (before : Option (List (List ℕ))) (faults : ℕ) → Come before before faults faults None [] [] nothing_came 0 false 0 []
+come-none : (before : Option (List (List ℕ))) (faults : ℕ) → Come before before faults faults None [] [] (nothing_came (most_clients true)) 0 false 0 []
 come-none before faults = record {
   reads = [];
   lines = [];
@@ -37,7 +37,7 @@ come-none before faults = record {
   plain = refl;
   said = refl;
   limits = refl;
-  orderly = after-none nothing_came;
+  orderly = after-none (nothing_came (most_clients true));
   numbered = refl;
   earlier = [];
   since = [];
@@ -49,7 +49,7 @@ come-none before faults = record {
   ended = λ e. cc;
 }
 
-pub come-start : (before : Option (List (List ℕ))) (faults : ℕ) (line held : List ℕ) (came : Came) → line ≡ [] → held ≡ [] → came ≡ nothing_came → Come before before faults faults None line held came 0 false 0 []
+pub come-start : (before : Option (List (List ℕ))) (faults : ℕ) (line held : List ℕ) (came : Came) → line ≡ [] → held ≡ [] → came ≡ nothing_came (most_clients true) → Come before before faults faults None line held came 0 false 0 []
 come-start before faults line held came empty none order =
     subst (λ l. Come before before faults faults None l held came 0 false 0 []) (sym empty)
     (subst (λ h. Come before before faults faults None [] h came 0 false 0 []) (sym none)
@@ -206,7 +206,7 @@ asks-more lines line asked e =
     sym (list_any-append is_hand lines (line ∷ []) ∙ ap (λ x. list_any is_hand lines || x) (or-false (is_hand line)) ∙ ap (λ x. x || is_hand line) (sym e))
 
 come-line : (before now : Option (List (List ℕ))) (faults count : ℕ) (line rest : List ℕ) (came next : Came) (taken : ℕ) (asked : Bool) (handed : ℕ) (arrivals then : List Arrival)
-    → ((lines : List (List ℕ)) → Say lines arrivals → Say (lines ++ line ∷ []) then) → list_all is_arrival then ≡ true → (after arrivals nothing_came ≡ Ok came → after then nothing_came ≡ Ok next)
+    → ((lines : List (List ℕ)) → Say lines arrivals → Say (lines ++ line ∷ []) then) → list_all is_arrival then ≡ true → (after arrivals (nothing_came (most_clients true)) ≡ Ok came → after then (nothing_came (most_clients true)) ≡ Ok next)
     → Come before now faults count None line (10 ∷ rest) came taken asked handed arrivals → Come before now faults count None [] rest next (taken + 1) (asked || is_hand line) handed then
 come-line before now faults count line rest came next taken asked handed arrivals then says_on limits order c = record {
   reads = c.reads;
@@ -276,7 +276,7 @@ come-taken before now faults count stopped next line held later rest came admits
     list_all-append is_arrival arrivals (a ∷ []) ∙ and_from (list_all is_arrival arrivals) (list_all is_arrival (a ∷ [])) from.limits (and_from (is_arrival a) true limit refl) in
     let to : Come before now faults count None [] whole.0 admits (taken + 1) (asked || is_hand line) handed (arrivals ++ a ∷ []) =
     come-line before now faults count line whole.0 came admits taken asked handed arrivals (arrivals ++ a ∷ []) (λ lines s. say-one line lines arrivals a says_some is s) limits
-    (λ e. after-more arrivals a nothing_came came admits e (sym may)) from in
+    (λ e. after-more arrivals a (nothing_came (most_clients true)) came admits e (sym may)) from in
     subst (λ s. Come before now faults count s later rest same more asks handed (arrivals ++ a ∷ [])) (sym (stays ∙ going))
     (subst (λ l. Come before now faults count None l rest same more asks handed (arrivals ++ a ∷ [])) (sym empty)
     (subst (λ r. Come before now faults count None [] r same more asks handed (arrivals ++ a ∷ [])) (sym behind)

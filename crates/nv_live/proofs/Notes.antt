@@ -7,7 +7,7 @@ use Rattle.std.proofs.lemmas.List.Elements.{All-nil, All-cons, All-head, All-tai
 use Rattle.nv_arrivals.specs.declared.arrival.ArrivalCause.{ArrivalCause}
 use Rattle.nv_arrivals.specs.Arrivals.{Arrival, is_arrival, BringsBytes}
 use Rattle.nv_arrivals.specs.Doings.{Doing, Takes, Says, Hands, takings, handings}
-use Rattle.nv_arrivals.specs.Order.{Came, nothing_came, onward, after, are_orderly}
+use Rattle.nv_arrivals.specs.Order.{Came, most_clients, nothing_came, onward, after, are_orderly}
 use Rattle.nv_arrivals.specs.Writing.{line_text}
 use Rattle.nv_arrivals.proofs.Orderly.{after-append}
 use Rattle.nv_script.specs.HandLines.{planned_too}
@@ -19,8 +19,8 @@ use Rattle.nv_script.proofs.Plans.{can_plan-next}
 use Rattle.nv_live.specs.Transcript.{hand_text, notes_on, continued_with}
 
 -- what comes first may come
-orderly-front : (xs ys : List Arrival) → are_orderly (xs ++ ys) ≡ true → are_orderly xs ≡ true
-orderly-front xs ys h = step (after xs nothing_came) (ap is_ok (sym (after-append xs ys nothing_came)) ∙ h) where
+orderly-front : (xs ys : List Arrival) → are_orderly (most_clients true) (xs ++ ys) ≡ true → are_orderly (most_clients true) xs ≡ true
+orderly-front xs ys h = step (after xs (nothing_came (most_clients true))) (ap is_ok (sym (after-append xs ys (nothing_came (most_clients true)))) ∙ h) where
   step : (r : Result Came ArrivalCause) → is_ok (onward r (λ c. after ys c)) ≡ true → is_ok r ≡ true
   step (Ok came) h = refl
   step (Err c) h = h
@@ -36,13 +36,13 @@ none_done : (s : Setup) → s ≡ continued_with [] s
 none_done s = λ i. record s { arrivals = sym (append-nil s.arrivals) i; hands = sym (append-nil s.hands) i }
 
 pub noted : (done : List Doing) (text : List ℕ) (s : Setup) → IsTranscript text s → list_all is_arrival (takings done) ≡ true → All BringsBytes (takings done)
-    → are_orderly (s.arrivals ++ takings done) ≡ true → are_hands (s.hands ++ handings done) ≡ true → IsTranscript (text ++ notes_on done) (continued_with done s)
+    → are_orderly (most_clients true) (s.arrivals ++ takings done) ≡ true → are_hands (s.hands ++ handings done) ≡ true → IsTranscript (text ++ notes_on done) (continued_with done s)
 noted [] text s tells sound bytes orderly planned = subst (IsTranscript (text ++ [])) (none_done s) (subst (λ t. IsTranscript t s) (sym (append-nil text)) tells)
 noted (Says said ∷ done) text s tells sound bytes orderly are = noted done text s tells sound bytes orderly are
 noted (Takes a ∷ done) text s tells sound bytes orderly are =
     let parts = and_parts (is_arrival a) (list_all is_arrival (takings done)) sound in
     let line : List ℕ = line_text a ++ codes "\n" in
-    let all : are_orderly ((s.arrivals ++ a ∷ []) ++ takings done) ≡ true = ap are_orderly (append_assoc s.arrivals (a ∷ []) (takings done)) ∙ orderly in
+    let all : are_orderly (most_clients true) ((s.arrivals ++ a ∷ []) ++ takings done) ≡ true = ap (are_orderly (most_clients true)) (append_assoc s.arrivals (a ∷ []) (takings done)) ∙ orderly in
     let next : IsTranscript (text ++ line) (continued_by (a ∷ []) s) =
     subst (λ t. IsTranscript (text ++ t) (continued_by (a ∷ []) s)) (append-nil line)
     (transcript text s (a ∷ []) tells (and_from (is_arrival a) true parts.0 refl) (All-cons BringsBytes a [] (All-head BringsBytes a (takings done) bytes) (All-nil BringsBytes)) (orderly-front (s.arrivals ++ a ∷ []) (takings done) all)) in

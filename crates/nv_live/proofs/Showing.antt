@@ -1,7 +1,7 @@
 -- What a live run shows in the end of what was done.
 use Rattle.std.proofs.Common.{◌≡◌, ℕ, Bool, true, false, List, [], ◌++◌, Option, None, refl, sym, ap, ◌∙◌, subst, append-nil, Ok, IsOk}
 use Rattle.nv_arrivals.specs.Doings.{Doing, takings, sayings, handings}
-use Rattle.nv_arrivals.specs.Order.{Came, nothing_came}
+use Rattle.nv_arrivals.specs.Order.{Came, most_clients, nothing_came}
 use Rattle.nv_outside.specs.Sink.{Puts}
 use Rattle.nv_live.specs.declared.incoming.Stopped.{Stopped}
 use Rattle.nv_live.specs.declared.run.LiveRun.{LiveRun}
@@ -20,7 +20,7 @@ use Rattle.nv_live.proofs.Serving.{did-none as lines-none}
 pub record IsFresh (told : Told) : Type 0 where
   pub held : told.held ≡ []
   pub line : told.line ≡ []
-  pub order : told.order ≡ nothing_came
+  pub order : told.order ≡ nothing_came (most_clients true)
   pub taken : told.taken ≡ 0
   pub asked : told.asked ≡ false
   pub going : told.stopped ≡ None
@@ -29,7 +29,7 @@ pub record IsFresh (told : Told) : Type 0 where
 
 module _ {I O T : Type 0} (took : I → Option (List (List ℕ))) (unread : I → ℕ) (said : O → Option (List ℕ)) (unsaid : O → ℕ) (noted : T → Option (List ℕ)) (unnoted : T → ℕ) where
   -- nothing came before by lines
-  lines-start : (before : Option (List (List ℕ))) (faults : ℕ) (stopped : Option Stopped) (line held : List ℕ) (came : Came) (taken : ℕ) (asked : Bool) → stopped ≡ None → line ≡ [] → held ≡ [] → came ≡ nothing_came → taken ≡ 0 → asked ≡ false
+  lines-start : (before : Option (List (List ℕ))) (faults : ℕ) (stopped : Option Stopped) (line held : List ℕ) (came : Came) (taken : ℕ) (asked : Bool) → stopped ≡ None → line ≡ [] → held ≡ [] → came ≡ nothing_came (most_clients true) → taken ≡ 0 → asked ≡ false
       → Come before before faults faults stopped line held came taken asked 0 []
   lines-start before faults stopped line held came taken asked going empty none order zero unasked =
       subst (λ s. Come before before faults faults s line held came taken asked 0 []) (sym going)

@@ -9,7 +9,7 @@ use Rattle.std.proofs.lemmas.List.Concat.{flat_map-append}
 use Rattle.std.proofs.lemmas.List.Folds.{list_all-append}
 use Rattle.nv_arrivals.specs.declared.arrival.ArrivalCause.{ArrivalCause}
 use Rattle.nv_arrivals.specs.Arrivals.{Arrival, Input, InputEnd, is_arrival}
-use Rattle.nv_arrivals.specs.Order.{Came, nothing_came, onward, after, are_orderly, are_arrivals}
+use Rattle.nv_arrivals.specs.Order.{Came, most_clients, nothing_came, onward, after, are_orderly, are_arrivals}
 use Rattle.nv_arrivals.specs.Pieces.{cut_after, pieces, input_of}
 use Rattle.nv_arrivals.proofs.Orderly.{after-append}
 use Rattle.nv_arrivals.proofs.Plain.{plain_limits, plain_order}
@@ -61,13 +61,13 @@ front-orderly xs ys came h = step (after xs came) (ap is_ok (sym (after-append x
   step (Ok c) e = refl
   step (Err x) e = e
 
-may-come : (reads : List (List ℕ)) (xs ys : List Arrival) → input_of 2000 reads ≡ xs ++ ys → are_arrivals xs ≡ true
+may-come : (reads : List (List ℕ)) (xs ys : List Arrival) → input_of 2000 reads ≡ xs ++ ys → are_arrivals (most_clients true) xs ≡ true
 unfolding are_arrivals
 may-come reads xs ys e =
     let sound : list_all is_arrival (xs ++ ys) ≡ true = ap (list_all is_arrival) (sym e) ∙ plain_limits reads in
     let both = and_parts (list_all is_arrival xs) (list_all is_arrival ys) (sym (list_all-append is_arrival xs ys) ∙ sound) in
-    let all : are_orderly (xs ++ ys) ≡ true = ap are_orderly (sym e) ∙ front-orderly (input_of 2000 reads) (InputEnd ∷ []) nothing_came (plain_order 2000 reads) in
-    and_from (list_all is_arrival xs) (are_orderly xs) both.0 (front-orderly xs ys nothing_came all)
+    let all : are_orderly (most_clients true) (xs ++ ys) ≡ true = ap (are_orderly (most_clients true)) (sym e) ∙ front-orderly (input_of 2000 reads) (InputEnd ∷ []) (nothing_came (most_clients true)) (plain_order (most_clients true) 2000 reads) in
+    and_from (list_all is_arrival xs) (are_orderly (most_clients true) xs) both.0 (front-orderly xs ys (nothing_came (most_clients true)) all)
 
 -- ---- what was taken
 

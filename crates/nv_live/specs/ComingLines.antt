@@ -5,7 +5,7 @@ use Rattle.nv_text.specs.Lines.{line_number}
 use Rattle.nv_arrivals.specs.Arrivals.{Arrival, is_arrival}
 use Rattle.nv_arrivals.specs.declared.arrival.ArrivalCause.{ArrivalCause}
 use Rattle.nv_arrivals.specs.declared.arrival.ArrivalCause.TheVariants.{Long}
-use Rattle.nv_arrivals.specs.Order.{Came, nothing_came, admitted, after}
+use Rattle.nv_arrivals.specs.Order.{Came, most_clients, nothing_came, admitted, after}
 use Rattle.nv_arrivals.specs.Reading.{arrival_of}
 use Rattle.nv_live.specs.declared.source.Read.{Read}
 use Rattle.nv_live.specs.declared.source.Read.TheVariants.{Count, Failed}
@@ -96,7 +96,7 @@ pub record Come (before now : Option (List (List ℕ))) (faults later_faults : �
   pub plain : list_all (λ l. list_all is_plain l) (lines ++ line ∷ []) ≡ true
   pub said : Say lines arrivals
   pub limits : list_all is_arrival arrivals ≡ true
-  pub orderly : after arrivals nothing_came ≡ Ok came
+  pub orderly : after arrivals (nothing_came (most_clients true)) ≡ Ok came
   pub numbered : taken ≡ length lines
   -- those before it last handed over, and those since
   pub earlier : List (List ℕ)

@@ -2,7 +2,7 @@
 use Rattle.std.specs.Prelude.{◌≡◌, ℕ, Bool, true, false, List, [], length, Option, None, is_some, IsOk}
 use Rattle.nv_arrivals.specs.Arrivals.{Arrival}
 use Rattle.nv_arrivals.specs.Doings.{Doing, Said}
-use Rattle.nv_arrivals.specs.Order.{Came, nothing_came}
+use Rattle.nv_arrivals.specs.Order.{Came, most_clients, nothing_came}
 use Rattle.nv_outside.specs.Sink.{Puts}
 use Rattle.nv_live.specs.declared.incoming.Stopped.{Stopped}
 use Rattle.nv_live.specs.declared.run.LiveRun.{LiveRun}
@@ -86,7 +86,7 @@ module _ {I O T : Type 0} (took : I → Option (List (List ℕ))) (unread : I �
     unread = unread run.incoming.source;
     held = held_of run.incoming;
     line = [];
-    order = nothing_came;
+    order = nothing_came (most_clients true);
     taken = 0;
     asked = false;
     stopped = run.incoming.stopped;
@@ -124,7 +124,7 @@ module _ {I O T : Type 0} (took : I → Option (List (List ℕ))) (unread : I �
     pub unread_is : told.unread ≡ unread streams.input
     pub held : told.held ≡ []
     pub line : told.line ≡ []
-    pub order : told.order ≡ nothing_came
+    pub order : told.order ≡ nothing_came (most_clients true)
     pub taken : told.taken ≡ 0
     pub asked : told.asked ≡ false
     pub going : told.stopped ≡ None

@@ -1,7 +1,7 @@
 -- What was taken of a source, as arrivals.
 use Rattle.std.specs.Prelude.{◌≡◌, ◌==◌, ℕ, Bool, false, List, [], ◌∷◌, ◌++◌, Option, None, Some, IsSome, map, drop, true, if◌then◌else◌}
 use Rattle.nv_arrivals.specs.Arrivals.{Arrival, Input}
-use Rattle.nv_arrivals.specs.Order.{are_arrivals}
+use Rattle.nv_arrivals.specs.Order.{most_clients, are_arrivals}
 use Rattle.nv_arrivals.specs.Pieces.{pieces, input_of}
 use Rattle.nv_outside.specs.Counts.{raised}
 use Rattle.nv_live.specs.declared.source.Read.{Read}
@@ -34,7 +34,7 @@ pub record Took (before now : Option (List (List ℕ))) (faults later_faults : �
   pub reads : List (List ℕ)
   pub gave : Gave before reads now
   pub cut : input_of 2000 reads ≡ arrivals ++ map Input (pieces 2000 held)
-  pub may_come : are_arrivals arrivals ≡ true
+  pub may_come : are_arrivals (most_clients true) arrivals ≡ true
   pub stops : is_plain_stop stopped ≡ true
   -- at the end the last read gave nothing
   pub ended : stopped ≡ Some Ended → (earlier : List (List ℕ)) × (reads ≡ earlier ++ [] ∷ [])

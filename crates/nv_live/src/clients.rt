@@ -11,7 +11,7 @@ ghost use Rattle.nv_live.specs.Lines.{held_text};
 ghost use Rattle.nv_live.specs.SaidLines.{writer_of};
 ghost use Rattle.nv_live.specs.Transcript.{writer_in};
 ghost use Rattle.nv_outside.specs.Sink.{Puts};
-ghost use Rattle.nv_arrivals.specs.Order.{nothing_came};
+ghost use Rattle.nv_arrivals.specs.Order.{most_clients, nothing_came};
 ghost use Rattle.nv_live.specs.Writer.{sink_in, put_of, WritesOn};
 ghost use Rattle.nv_script.specs.HandLines.{can_plan};
 ghost use Rattle.nv_script.specs.Scripts.{are_hands};
@@ -54,7 +54,7 @@ impl<I: Source, O: Sink + Drop, T: Sink + Drop> Clients<I, O, T> {
         ensures head { IfOk result (λ clients. Puts (T.told transcript) (T.faults transcript) head.now (put_of (writer_in (transcript_from clients))) (T.told (sink_in (writer_in (transcript_from clients)))) (T.faults (sink_in (writer_in (transcript_from clients))))) }
         ensures held { IfOk result (λ clients. held_from (coming_of clients) ≡ []) }
         ensures line { IfOk result (λ clients. line_from (coming_of clients) ≡ []) }
-        ensures order { IfOk result (λ clients. order_from (coming_of clients) ≡ nothing_came) }
+        ensures order { IfOk result (λ clients. order_from (coming_of clients) ≡ nothing_came (most_clients true)) }
         ensures taken { IfOk result (λ clients. taken_from (coming_of clients) ≡ 0) }
         ensures asked { IfOk result (λ clients. asked_from (coming_of clients) ≡ false) }
         ensures hands { IfOk result (λ clients. lengths_of (hand_overs_of clients) ≡ hands.now) }

@@ -3,7 +3,7 @@ ghost use Rattle.std.specs.Prelude.{◌≡◌, ◌+◌, ◌-◌, ◌<◌, ◌≤
 ghost use Rattle.std.specs.List.{prefix_len};
 ghost use Rattle.nv_text.specs.Lines.{line_number};
 ghost use Rattle.nv_arrivals.specs.Arrivals.{is_arrival};
-ghost use Rattle.nv_arrivals.specs.Order.{nothing_came};
+ghost use Rattle.nv_arrivals.specs.Order.{most_clients, nothing_came};
 ghost use Rattle.nv_arrivals.specs.Reading.{arrival_of};
 ghost use Rattle.nv_arrivals.specs.Views.{view, result_view};
 ghost use Rattle.nv_live.specs.ComingLines.{source_from, held_from, line_from, order_from, taken_from, asked_from, stop_from, is_plain, is_comment, is_hand, is_passed, stop_by_end, IsRefused, ComesOn, HandsOn, HasCome, IsWhole};
@@ -82,7 +82,7 @@ impl<I: Source> ComingLines<I> {
         ensures come { IfOk result (λ coming. HasCome I.took I.faults coming coming [] 0) }
         ensures held { IfOk result (λ coming. held_from coming ≡ []) }
         ensures line { IfOk result (λ coming. line_from coming ≡ []) }
-        ensures order { IfOk result (λ coming. order_from coming ≡ nothing_came) }
+        ensures order { IfOk result (λ coming. order_from coming ≡ nothing_came (most_clients true)) }
         ensures taken { IfOk result (λ coming. taken_from coming ≡ 0) }
         ensures going { IfOk result (λ coming. stop_from coming ≡ None) }
     {
@@ -90,7 +90,7 @@ impl<I: Source> ComingLines<I> {
             source,
             buffer: Buffer::make(alloc)?,
             line: Vec::new(alloc),
-            order: Order::new(alloc),
+            order: Order::new(alloc, true),
             taken: 0,
             asked: false,
             stopped: None,

@@ -3,7 +3,7 @@ ghost use Rattle.std.specs.Prelude.{◌≡◌, ℕ, true, List, ◌++◌};
 ghost use Rattle.std.specs.List.{All, list_all};
 ghost use Rattle.nv_arrivals.specs.Arrivals.{is_arrival, BringsBytes};
 ghost use Rattle.nv_arrivals.specs.Doings.{Doing, takings, handings};
-ghost use Rattle.nv_arrivals.specs.Order.{are_orderly};
+ghost use Rattle.nv_arrivals.specs.Order.{most_clients, are_orderly};
 ghost use Rattle.nv_live.specs.Transcript.{notes_on, continued_with};
 ghost use Rattle.nv_script.specs.Scripts.{Setup, are_hands};
 ghost use Rattle.nv_script.specs.Transcripts.{IsTranscript};
@@ -13,5 +13,5 @@ ghost use Rattle.nv_script.specs.Transcripts.{IsTranscript};
 #[tactic(auto, using(crate::proofs::Notes::noted))]
 pub fn notes_are_scripts()
     ensures { (text : List ℕ) (setup : Setup) (done : List Doing) → IsTranscript text setup → list_all is_arrival (takings done) ≡ true → All BringsBytes (takings done)
-        → are_orderly (setup.arrivals ++ takings done) ≡ true → are_hands (setup.hands ++ handings done) ≡ true → IsTranscript (text ++ notes_on done) (continued_with done setup) }
+        → are_orderly (most_clients true) (setup.arrivals ++ takings done) ≡ true → are_hands (setup.hands ++ handings done) ≡ true → IsTranscript (text ++ notes_on done) (continued_with done setup) }
 {}

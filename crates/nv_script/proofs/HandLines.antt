@@ -52,13 +52,13 @@ line-drafted m n d h new few = ap (λ r. onward m r (λ next. drafted Fifth (m +
 
 -- ---- the whole text
 
-drafted-more : (body : List (List ℕ)) (n : ℕ) (s : Setup) (r : Result Draft ScriptFault) → drafted Fifth 1 body blank ≡ r → finished_result Fifth r ≡ Ok s → CanPlan n s.hands
-    → finished_result Fifth (drafted Fifth 1 (body ++ hand_line n ∷ []) blank) ≡ Ok (planned_too n s)
+drafted-more : (body : List (List ℕ)) (n : ℕ) (s : Setup) (r : Result Draft ScriptFault) → drafted Fifth 1 body (blank Fifth) ≡ r → finished_result Fifth r ≡ Ok s → CanPlan n s.hands
+    → finished_result Fifth (drafted Fifth 1 (body ++ hand_line n ∷ []) (blank Fifth)) ≡ Ok (planned_too n s)
 drafted-more body n s (Err fault) is h can = cc
 drafted-more body n s (Ok d) is h can =
     let same : finished Fifth d ≡ s = cc in
     let own : d.hands ≡ s.hands = ap (λ (t : Setup). t.hands) same in
-    ap (finished_result Fifth) (drafted-append Fifth 1 body (hand_line n ∷ []) blank d is
+    ap (finished_result Fifth) (drafted-append Fifth 1 body (hand_line n ∷ []) (blank Fifth) d is
     ∙ line-drafted (1 + length body) n d can.within (ap (has_hand n) own ∙ can.new) (ap (λ (hands : List ℕ). nat_lt (length hands) 8) own ∙ can.few))
     ∙ ap (λ (t : Setup). Ok (planned_too n t)) same
 
@@ -69,9 +69,9 @@ says text s n tells can =
     let all : lines (text ++ (hand_line n ++ 10 ∷ [])) ≡ codes "varan-script 5" ∷ (lines tells.body ++ hand_line n ∷ []) =
     lines-ended text tells.front (hand_line n ++ 10 ∷ []) tells.ends ∙ ap (λ ls. ls ++ lines (hand_line n ++ 10 ∷ [])) told
     ∙ ap (λ ls. codes "varan-script 5" ∷ (lines tells.body ++ ls)) (one_line n can.within) in
-    let before : finished_result Fifth (drafted Fifth 1 (lines tells.body) blank) ≡ Ok s = sym (ap script_of_lines told ∙ in-form (lines tells.body)) ∙ tells.says in
+    let before : finished_result Fifth (drafted Fifth 1 (lines tells.body) (blank Fifth)) ≡ Ok s = sym (ap script_of_lines told ∙ in-form (lines tells.body)) ∙ tells.says in
     ap script_of_lines all ∙ in-form (lines tells.body ++ hand_line n ∷ [])
-    ∙ drafted-more (lines tells.body) n s (drafted Fifth 1 (lines tells.body) blank) refl before can
+    ∙ drafted-more (lines tells.body) n s (drafted Fifth 1 (lines tells.body) (blank Fifth)) refl before can
 
 pub planned : (text : List ℕ) (s : Setup) (n : ℕ) → IsTranscript text s → can_plan n s.hands ≡ true → IsTranscript (text ++ (hand_line n ++ codes "\n")) (planned_too n s)
 planned text s n tells can = record {

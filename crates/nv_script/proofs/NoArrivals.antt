@@ -60,12 +60,12 @@ drafted-brings-none f n (line ∷ rest) d e none h = step (with_script_line f li
   step (Ok next) is h later = later next h ∙ line-brings-none f line d next (none line) is
   step (Err c) is h later = cc
 
-finished-brings-none : (f : Form) (text : List (List ℕ)) (s : Setup) → ((line : List ℕ) → begins_arrival f line ≡ false) → finished_result f (drafted f 1 text blank) ≡ Ok s → s.arrivals ≡ []
-finished-brings-none f text s none h = step (drafted f 1 text blank) refl h where
-  step : (r : Result Draft ScriptFault) → drafted f 1 text blank ≡ r → finished_result f r ≡ Ok s → s.arrivals ≡ []
+finished-brings-none : (f : Form) (text : List (List ℕ)) (s : Setup) → ((line : List ℕ) → begins_arrival f line ≡ false) → finished_result f (drafted f 1 text (blank f)) ≡ Ok s → s.arrivals ≡ []
+finished-brings-none f text s none h = step (drafted f 1 text (blank f)) refl h where
+  step : (r : Result Draft ScriptFault) → drafted f 1 text (blank f) ≡ r → finished_result f r ≡ Ok s → s.arrivals ≡ []
   step (Ok d) is h =
       let same : finished f d ≡ s = cc in
-      ap (λ (t : Setup). t.arrivals) (sym same) ∙ drafted-brings-none f 1 text blank d none is
+      ap (λ (t : Setup). t.arrivals) (sym same) ∙ drafted-brings-none f 1 text (blank f) d none is
   step (Err fault) is h = cc
 
 script_in-brings-none : (first : List ℕ) (rest : List (List ℕ)) (s : Setup) → bytes_eq first (codes "varan-script 4") ≡ false → bytes_eq first (codes "varan-script 5") ≡ false → script_in (form_of first) rest ≡ Ok s

@@ -1,5 +1,5 @@
 -- Which scripts have the calls that wait for several things at once.
-use Rattle.std.proofs.Common.{◌≡◌, ℕ, Bool, true, false, cond, List, [], ◌∷◌, Option, Some, None, Result, Ok, Err, codes, bytes_eq, refl, sym, ap, ◌∙◌}
+use Rattle.std.proofs.Common.{◌≡◌, ℕ, Bool, true, false, cond, List, ◌∷◌, Some, None, Result, Ok, Err, codes, bytes_eq, refl, sym, ap, ◌∙◌}
 use Rattle.std.proofs.lemmas.Slice.Eq.{bytes_eq-Decides}
 use Rattle.nv_text.specs.Lines.{lines}
 use Rattle.nv_script.specs.declared.form.Form.{Form}
@@ -26,11 +26,11 @@ in-polls first rest s h =
     (unlike first (codes "varan-script 3") (codes "varan-script 5") refl) (unlike first (codes "varan-script 4") (codes "varan-script 5") refl) h where
       step : (x y z v w : Bool) → (x ≡ true → w ≡ false) → (y ≡ true → w ≡ false) → (z ≡ true → w ≡ false) → (v ≡ true → w ≡ false)
           → script_in (cond x (Some form.First) (cond y (Some form.Second) (cond z (Some form.Third) (cond v (Some form.Fourth) (cond w (Some form.Fifth) None))))) rest ≡ Ok s → s.polls ≡ w
-      step true y z v w p q r t h = finished-polls form.First (drafted form.First 1 rest blank) s h ∙ sym (p refl)
-      step false true z v w p q r t h = finished-polls form.Second (drafted form.Second 1 rest blank) s h ∙ sym (q refl)
-      step false false true v w p q r t h = finished-polls form.Third (drafted form.Third 1 rest blank) s h ∙ sym (r refl)
-      step false false false true w p q r t h = finished-polls form.Fourth (drafted form.Fourth 1 rest blank) s h ∙ sym (t refl)
-      step false false false false true p q r t h = finished-polls form.Fifth (drafted form.Fifth 1 rest blank) s h
+      step true y z v w p q r t h = finished-polls form.First (drafted form.First 1 rest (blank form.First)) s h ∙ sym (p refl)
+      step false true z v w p q r t h = finished-polls form.Second (drafted form.Second 1 rest (blank form.Second)) s h ∙ sym (q refl)
+      step false false true v w p q r t h = finished-polls form.Third (drafted form.Third 1 rest (blank form.Third)) s h ∙ sym (r refl)
+      step false false false true w p q r t h = finished-polls form.Fourth (drafted form.Fourth 1 rest (blank form.Fourth)) s h ∙ sym (t refl)
+      step false false false false true p q r t h = finished-polls form.Fifth (drafted form.Fifth 1 rest (blank form.Fifth)) s h
       step false false false false false p q r t h = cc
 
 pub polls : (text first : List ℕ) (rest : List (List ℕ)) (s : Setup) → lines text ≡ first ∷ rest → script_of text ≡ Ok s → s.polls ≡ bytes_eq first (codes "varan-script 5")

@@ -13,7 +13,7 @@ use Rattle.nv_text.specs.Lines.{lines}
 use Rattle.nv_arrivals.specs.declared.arrival.ArrivalCause.{ArrivalCause}
 use Rattle.nv_arrivals.specs.Arrivals.{Arrival, is_arrival}
 use Rattle.nv_arrivals.specs.Reading.{arrival_of}
-use Rattle.nv_arrivals.specs.Order.{Came, nothing_came, admitted, after, are_arrivals}
+use Rattle.nv_arrivals.specs.Order.{Came, most_clients, nothing_came, admitted, after, are_arrivals}
 use Rattle.nv_arrivals.proofs.Sound.{arrival_of-sound}
 use Rattle.nv_arrivals.proofs.Orderly.{after-more, after-none, are_arrivals-from}
 use Rattle.nv_script.specs.declared.entry.Clock.{Clock}
@@ -23,7 +23,7 @@ use Rattle.nv_script.specs.declared.fault.ScriptCause.TheVariants.{Range, Twice,
 use Rattle.nv_script.specs.declared.fault.ScriptFault.{ScriptFault}
 use Rattle.nv_script.specs.declared.kind.Kind.{Kind}
 use Rattle.nv_script.specs.declared.kind.Kind.TheVariants as kind
-use Rattle.nv_script.specs.Entry.{Entry, Nothing, Argument, Input, File, Time, Seed, Hand, Connection, Arrives, arrives, begins_arrival, form_of, is_hand, hand_entry, hand_with, is_port, connection_entry, connection_with, connection_of, argument_entry, is_argument, is_file_name, is_passed_over, clock_fits, clock_entry, clock_with, clock_of, file_with, file_entry, shaped, entry_by, entry_with, entry_of, kind_of}
+use Rattle.nv_script.specs.Entry.{Entry, Nothing, Argument, Input, File, Time, Seed, Hand, Connection, Arrives, arrives, begins_arrival, form_of, is_fifth, is_hand, hand_entry, hand_with, is_port, connection_entry, connection_with, connection_of, argument_entry, is_argument, is_file_name, is_passed_over, clock_fits, clock_entry, clock_with, clock_of, file_with, file_entry, shaped, entry_by, entry_with, entry_of, kind_of}
 use Rattle.nv_script.specs.Scripts.{Named, Incoming, Setup, Draft, blank, has_name, has_hand, with_argument, with_named_file, with_clock, with_seed, with_hand, with_connection, with_came, with_arrival, with_entry, with_result, with_script_line, onward, drafted, no_clock, finished, finished_result, script_in, script_of_lines, script_of, is_file, are_distinct, are_files, differ, are_hands, is_connection, are_connections, is_script}
 
 -- ---- the parts of the two tests
@@ -86,7 +86,7 @@ pub record ScriptKeeps (setup : Setup) : Type 0 where
   pub seed : setup.seed < 2 ^ 32
   pub hands : are_hands setup.hands ≡ true
   pub connections : are_connections setup.connections ≡ true
-  pub arrivals : are_arrivals setup.arrivals ≡ true
+  pub arrivals : are_arrivals (most_clients setup.polls) setup.arrivals ≡ true
 
 pub script-keeps : (setup : Setup) → is_script setup ≡ true → ScriptKeeps setup
 unfolding is_script
@@ -346,19 +346,19 @@ connections-more connections more k room sound = record {
 
 -- ---- arrivals, with one more
 
-pub record ArrivalsKeep (arrivals : List Arrival) (now : Came) : Type 0 where
+pub record ArrivalsKeep (most : ℕ) (arrivals : List Arrival) (now : Came) : Type 0 where
   pub sound : list_all is_arrival arrivals ≡ true
-  pub orderly : after arrivals nothing_came ≡ Ok now
+  pub orderly : after arrivals (nothing_came most) ≡ Ok now
 
-arrivals-more : (arrivals : List Arrival) (a : Arrival) (now next : Came) → ArrivalsKeep arrivals now → is_arrival a ≡ true → admitted a now ≡ Ok next → ArrivalsKeep (arrivals ++ a ∷ []) next
-arrivals-more arrivals a now next k sound h = record {
+arrivals-more : (most : ℕ) (arrivals : List Arrival) (a : Arrival) (now next : Came) → ArrivalsKeep most arrivals now → is_arrival a ≡ true → admitted a now ≡ Ok next → ArrivalsKeep most (arrivals ++ a ∷ []) next
+arrivals-more most arrivals a now next k sound h = record {
   sound = list_all-append is_arrival arrivals (a ∷ []) ∙ and_from _ _ k.sound (and_from _ _ sound refl);
-  orderly = after-more arrivals a nothing_came now next k.orderly h;
+  orderly = after-more arrivals a (nothing_came most) now next k.orderly h;
 }
 
 -- ---- drafts
 
-pub record DraftKeeps (draft : Draft) : Type 0 where
+pub record DraftKeeps (most : ℕ) (draft : Draft) : Type 0 where
   pub arguments : length draft.arguments ≤ 256
   pub texts : list_all is_argument draft.arguments ≡ true
   pub files : FilesKeep draft.files
@@ -366,21 +366,21 @@ pub record DraftKeeps (draft : Draft) : Type 0 where
   pub seed : seed_sound (unwrap_or draft.seed 0) ≡ true
   pub hands : HandsKeep draft.hands
   pub connections : ConnectionsKeep draft.connections
-  pub arrivals : ArrivalsKeep draft.arrivals draft.came
+  pub arrivals : ArrivalsKeep most draft.arrivals draft.came
 
-pub blank-keeps : DraftKeeps blank
-blank-keeps = record { arguments = omega arith; texts = refl; files = record { few = omega arith; sound = refl; distinct = refl }; clock = refl; seed = refl; hands = record { few = omega arith; sound = refl; apart = refl }; connections = record { few = omega arith; sound = refl }; arrivals = record { sound = refl; orderly = after-none nothing_came } }
+pub blank-keeps : (f : Form) → DraftKeeps (most_clients (is_fifth f)) (blank f)
+blank-keeps f = record { arguments = omega arith; texts = refl; files = record { few = omega arith; sound = refl; distinct = refl }; clock = refl; seed = refl; hands = record { few = omega arith; sound = refl; apart = refl }; connections = record { few = omega arith; sound = refl }; arrivals = record { sound = refl; orderly = after-none (nothing_came (most_clients (is_fifth f))) } }
 
-keeps-along : (d e : Draft) → DraftKeeps d → d ≡ e → DraftKeeps e
-keeps-along d e k same = subst DraftKeeps same k
+keeps-along : (most : ℕ) (d e : Draft) → DraftKeeps most d → d ≡ e → DraftKeeps most e
+keeps-along most d e k same = subst (DraftKeeps most) same k
 
-argument-keeps : (text : List ℕ) (d e : Draft) → DraftKeeps d → is_argument text ≡ true → with_argument text d ≡ Ok e → DraftKeeps e
+argument-keeps : (most : ℕ) (text : List ℕ) (d e : Draft) → DraftKeeps most d → is_argument text ≡ true → with_argument text d ≡ Ok e → DraftKeeps most e
 unfolding with_argument
-argument-keeps text d e k sound h = step (nat_lt (length d.arguments) 256) refl h where
-  step : (x : Bool) → nat_lt (length d.arguments) 256 ≡ x → cond x (Ok (record d { arguments = d.arguments ++ text ∷ [] })) (Err Long) ≡ Ok e → DraftKeeps e
+argument-keeps most text d e k sound h = step (nat_lt (length d.arguments) 256) refl h where
+  step : (x : Bool) → nat_lt (length d.arguments) 256 ≡ x → cond x (Ok (record d { arguments = d.arguments ++ text ∷ [] })) (Err Long) ≡ Ok e → DraftKeeps most e
   step true room h =
       let below : length d.arguments < 256 = grind (arith, nat_tests) in
-      keeps-along (record d { arguments = d.arguments ++ text ∷ [] }) e
+      keeps-along most (record d { arguments = d.arguments ++ text ∷ [] }) e
       (record {
         arguments = omega (arith, length-append d.arguments (text ∷ []));
         texts = list_all-append is_argument d.arguments (text ∷ []) ∙ and_from _ _ k.texts (and_from _ _ sound refl);
@@ -393,19 +393,19 @@ argument-keeps text d e k sound h = step (nat_lt (length d.arguments) 256) refl 
       }) cc
   step false room h = cc
 
-input-keeps : (d e : Draft) (bytes : List ℕ) → DraftKeeps d → record d { input = d.input ++ bytes } ≡ e → DraftKeeps e
-input-keeps d e bytes k same = keeps-along _ e (record { arguments = k.arguments; texts = k.texts; files = k.files; clock = k.clock; seed = k.seed; hands = k.hands; connections = k.connections; arrivals = k.arrivals }) same
+input-keeps : (most : ℕ) (d e : Draft) (bytes : List ℕ) → DraftKeeps most d → record d { input = d.input ++ bytes } ≡ e → DraftKeeps most e
+input-keeps most d e bytes k same = keeps-along most _ e (record { arguments = k.arguments; texts = k.texts; files = k.files; clock = k.clock; seed = k.seed; hands = k.hands; connections = k.connections; arrivals = k.arrivals }) same
 
-file-keeps : (name content : List ℕ) (d e : Draft) → DraftKeeps d → is_file_name name ≡ true → with_named_file name content d ≡ Ok e → DraftKeeps e
+file-keeps : (most : ℕ) (name content : List ℕ) (d e : Draft) → DraftKeeps most d → is_file_name name ≡ true → with_named_file name content d ≡ Ok e → DraftKeeps most e
 unfolding with_named_file
-file-keeps name content d e k sound h = step (has_name name d.files) (nat_lt (length d.files) 256 && nat_le (length content) 1048576) refl refl h where
+file-keeps most name content d e k sound h = step (has_name name d.files) (nat_lt (length d.files) 256 && nat_le (length content) 1048576) refl refl h where
   step : (x y : Bool) → has_name name d.files ≡ x → (nat_lt (length d.files) 256 && nat_le (length content) 1048576) ≡ y
-      → cond x (Err Twice) (cond y (Ok (record d { files = d.files ++ (name, content) ∷ [] })) (Err Long)) ≡ Ok e → DraftKeeps e
+      → cond x (Err Twice) (cond y (Ok (record d { files = d.files ++ (name, content) ∷ [] })) (Err Long)) ≡ Ok e → DraftKeeps most e
   step true y new room h = cc
   step false true new room h =
       let parts = and_parts (nat_lt (length d.files) 256) _ room in
       let below : length d.files < 256 = grind (arith, nat_tests) in
-      keeps-along (record d { files = d.files ++ (name, content) ∷ [] }) e
+      keeps-along most (record d { files = d.files ++ (name, content) ∷ [] }) e
       (record {
         arguments = k.arguments;
         texts = k.texts;
@@ -418,38 +418,38 @@ file-keeps name content d e k sound h = step (has_name name d.files) (nat_lt (le
       }) cc
   step false false new room h = cc
 
-clock-keeps : (clock : Clock) (d e : Draft) → DraftKeeps d → clock_sound clock ≡ true → with_clock clock d ≡ Ok e → DraftKeeps e
-clock-keeps clock d e k sound h = step (is_some d.clock) h where
-  step : (x : Bool) → cond x (Err Twice) (Ok (record d { clock = Some clock })) ≡ Ok e → DraftKeeps e
+clock-keeps : (most : ℕ) (clock : Clock) (d e : Draft) → DraftKeeps most d → clock_sound clock ≡ true → with_clock clock d ≡ Ok e → DraftKeeps most e
+clock-keeps most clock d e k sound h = step (is_some d.clock) h where
+  step : (x : Bool) → cond x (Err Twice) (Ok (record d { clock = Some clock })) ≡ Ok e → DraftKeeps most e
   step true h = cc
-  step false h = keeps-along (record d { clock = Some clock }) e (record { arguments = k.arguments; texts = k.texts; files = k.files; clock = sound; seed = k.seed; hands = k.hands; connections = k.connections; arrivals = k.arrivals }) cc
+  step false h = keeps-along most (record d { clock = Some clock }) e (record { arguments = k.arguments; texts = k.texts; files = k.files; clock = sound; seed = k.seed; hands = k.hands; connections = k.connections; arrivals = k.arrivals }) cc
 
-seed-keeps : (seed : ℕ) (d e : Draft) → DraftKeeps d → seed_sound seed ≡ true → with_seed seed d ≡ Ok e → DraftKeeps e
-seed-keeps seed d e k sound h = step (is_some d.seed) h where
-  step : (x : Bool) → cond x (Err Twice) (Ok (record d { seed = Some seed })) ≡ Ok e → DraftKeeps e
+seed-keeps : (most : ℕ) (seed : ℕ) (d e : Draft) → DraftKeeps most d → seed_sound seed ≡ true → with_seed seed d ≡ Ok e → DraftKeeps most e
+seed-keeps most seed d e k sound h = step (is_some d.seed) h where
+  step : (x : Bool) → cond x (Err Twice) (Ok (record d { seed = Some seed })) ≡ Ok e → DraftKeeps most e
   step true h = cc
-  step false h = keeps-along (record d { seed = Some seed }) e (record { arguments = k.arguments; texts = k.texts; files = k.files; clock = k.clock; seed = sound; hands = k.hands; connections = k.connections; arrivals = k.arrivals }) cc
+  step false h = keeps-along most (record d { seed = Some seed }) e (record { arguments = k.arguments; texts = k.texts; files = k.files; clock = k.clock; seed = sound; hands = k.hands; connections = k.connections; arrivals = k.arrivals }) cc
 
-hand-keeps : (n : ℕ) (d e : Draft) → DraftKeeps d → is_hand n ≡ true → with_hand n d ≡ Ok e → DraftKeeps e
-hand-keeps n d e k sound h = step (has_hand n d.hands) (nat_lt (length d.hands) 8) refl refl h where
+hand-keeps : (most : ℕ) (n : ℕ) (d e : Draft) → DraftKeeps most d → is_hand n ≡ true → with_hand n d ≡ Ok e → DraftKeeps most e
+hand-keeps most n d e k sound h = step (has_hand n d.hands) (nat_lt (length d.hands) 8) refl refl h where
   step : (x y : Bool) → has_hand n d.hands ≡ x → nat_lt (length d.hands) 8 ≡ y
-      → cond x (Err Twice) (cond y (Ok (record d { hands = d.hands ++ n ∷ [] })) (Err Long)) ≡ Ok e → DraftKeeps e
+      → cond x (Err Twice) (cond y (Ok (record d { hands = d.hands ++ n ∷ [] })) (Err Long)) ≡ Ok e → DraftKeeps most e
   step true y new room h = cc
   step false true new room h =
       let below : length d.hands < 8 = grind (arith, nat_tests) in
-      keeps-along (record d { hands = d.hands ++ n ∷ [] }) e
+      keeps-along most (record d { hands = d.hands ++ n ∷ [] }) e
       (record { arguments = k.arguments; texts = k.texts; files = k.files; clock = k.clock; seed = k.seed; hands = hands-more d.hands n k.hands below sound new; connections = k.connections; arrivals = k.arrivals }) cc
   step false false new room h = cc
 
-connection-keeps : (port : ℕ) (input : List ℕ) (d e : Draft) → DraftKeeps d → is_port port ≡ true → with_connection port input d ≡ Ok e → DraftKeeps e
+connection-keeps : (most : ℕ) (port : ℕ) (input : List ℕ) (d e : Draft) → DraftKeeps most d → is_port port ≡ true → with_connection port input d ≡ Ok e → DraftKeeps most e
 unfolding with_connection
-connection-keeps port input d e k sound h = step (nat_lt (length d.connections) 64 && nat_le (length input) 1048576) refl h where
+connection-keeps most port input d e k sound h = step (nat_lt (length d.connections) 64 && nat_le (length input) 1048576) refl h where
   step : (x : Bool) → (nat_lt (length d.connections) 64 && nat_le (length input) 1048576) ≡ x
-      → cond x (Ok (record d { connections = d.connections ++ (port, input) ∷ [] })) (Err Long) ≡ Ok e → DraftKeeps e
+      → cond x (Ok (record d { connections = d.connections ++ (port, input) ∷ [] })) (Err Long) ≡ Ok e → DraftKeeps most e
   step true room h =
       let parts = and_parts (nat_lt (length d.connections) 64) _ room in
       let below : length d.connections < 64 = grind (arith, nat_tests) in
-      keeps-along (record d { connections = d.connections ++ (port, input) ∷ [] }) e
+      keeps-along most (record d { connections = d.connections ++ (port, input) ∷ [] }) e
       (record {
         arguments = k.arguments;
         texts = k.texts;
@@ -462,11 +462,11 @@ connection-keeps port input d e k sound h = step (nat_lt (length d.connections) 
       }) cc
   step false room h = cc
 
-arrival-keeps : (a : Arrival) (d e : Draft) → DraftKeeps d → is_arrival a ≡ true → with_arrival a d ≡ Ok e → DraftKeeps e
-arrival-keeps a d e k sound h = step (admitted a d.came) refl h where
-  step : (r : Result Came ArrivalCause) → admitted a d.came ≡ r → with_came a r d ≡ Ok e → DraftKeeps e
+arrival-keeps : (most : ℕ) (a : Arrival) (d e : Draft) → DraftKeeps most d → is_arrival a ≡ true → with_arrival a d ≡ Ok e → DraftKeeps most e
+arrival-keeps most a d e k sound h = step (admitted a d.came) refl h where
+  step : (r : Result Came ArrivalCause) → admitted a d.came ≡ r → with_came a r d ≡ Ok e → DraftKeeps most e
   step (Ok next) is h =
-      keeps-along (record d { arrivals = d.arrivals ++ a ∷ []; came = next }) e
+      keeps-along most (record d { arrivals = d.arrivals ++ a ∷ []; came = next }) e
       (record {
         arguments = k.arguments;
         texts = k.texts;
@@ -475,41 +475,41 @@ arrival-keeps a d e k sound h = step (admitted a d.came) refl h where
         seed = k.seed;
         hands = k.hands;
         connections = k.connections;
-        arrivals = arrivals-more d.arrivals a d.came next k.arrivals sound is;
+        arrivals = arrivals-more most d.arrivals a d.came next k.arrivals sound is;
       }) cc
   step (Err c) is h = cc
 
-entry-keeps : (entry : Entry) (d e : Draft) → DraftKeeps d → entry_sound entry ≡ true → with_entry entry d ≡ Ok e → DraftKeeps e
-entry-keeps Nothing d e k sound h = keeps-along d e k cc
-entry-keeps (Argument text) d e k sound h = argument-keeps text d e k sound h
-entry-keeps (Input bytes) d e k sound h = input-keeps d e bytes k cc
-entry-keeps (File name content) d e k sound h = file-keeps name content d e k sound h
-entry-keeps (Time clock) d e k sound h = clock-keeps clock d e k sound h
-entry-keeps (Seed seed) d e k sound h = seed-keeps seed d e k sound h
-entry-keeps (Hand n) d e k sound h = hand-keeps n d e k sound h
-entry-keeps (Connection port input) d e k sound h = connection-keeps port input d e k sound h
-entry-keeps (Arrives a) d e k sound h = arrival-keeps a d e k sound h
+entry-keeps : (most : ℕ) (entry : Entry) (d e : Draft) → DraftKeeps most d → entry_sound entry ≡ true → with_entry entry d ≡ Ok e → DraftKeeps most e
+entry-keeps most Nothing d e k sound h = keeps-along most d e k cc
+entry-keeps most (Argument text) d e k sound h = argument-keeps most text d e k sound h
+entry-keeps most (Input bytes) d e k sound h = input-keeps most d e bytes k cc
+entry-keeps most (File name content) d e k sound h = file-keeps most name content d e k sound h
+entry-keeps most (Time clock) d e k sound h = clock-keeps most clock d e k sound h
+entry-keeps most (Seed seed) d e k sound h = seed-keeps most seed d e k sound h
+entry-keeps most (Hand n) d e k sound h = hand-keeps most n d e k sound h
+entry-keeps most (Connection port input) d e k sound h = connection-keeps most port input d e k sound h
+entry-keeps most (Arrives a) d e k sound h = arrival-keeps most a d e k sound h
 
-result-keeps : (r : Result Entry ScriptCause) (d e : Draft) → DraftKeeps d → ((entry : Entry) → r ≡ Ok entry → entry_sound entry ≡ true) → with_result r d ≡ Ok e → DraftKeeps e
-result-keeps (Ok entry) d e k sound h = entry-keeps entry d e k (sound entry refl) h
-result-keeps (Err cause) d e k sound h = cc
+result-keeps : (most : ℕ) (r : Result Entry ScriptCause) (d e : Draft) → DraftKeeps most d → ((entry : Entry) → r ≡ Ok entry → entry_sound entry ≡ true) → with_result r d ≡ Ok e → DraftKeeps most e
+result-keeps most (Ok entry) d e k sound h = entry-keeps most entry d e k (sound entry refl) h
+result-keeps most (Err cause) d e k sound h = cc
 
-line-keeps : (form : Form) (line : List ℕ) (d e : Draft) → DraftKeeps d → with_script_line form line d ≡ Ok e → DraftKeeps e
+line-keeps : (most : ℕ) (form : Form) (line : List ℕ) (d e : Draft) → DraftKeeps most d → with_script_line form line d ≡ Ok e → DraftKeeps most e
 unfolding with_script_line
-line-keeps form line d e k h = result-keeps (entry_of form line) d e k (entry_of-sound form line) h
+line-keeps most form line d e k h = result-keeps most (entry_of form line) d e k (entry_of-sound form line) h
 
-pub drafted-keeps : (form : Form) (n : ℕ) (lines : List (List ℕ)) (d e : Draft) → DraftKeeps d → drafted form n lines d ≡ Ok e → DraftKeeps e
+pub drafted-keeps : (most : ℕ) (form : Form) (n : ℕ) (lines : List (List ℕ)) (d e : Draft) → DraftKeeps most d → drafted form n lines d ≡ Ok e → DraftKeeps most e
 unfolding drafted
-drafted-keeps form n [] d e k h = keeps-along d e k cc
-drafted-keeps form n (line ∷ lines) d e k h = step (with_script_line form line d) refl h (drafted-keeps form (n + 1) lines) where
+drafted-keeps most form n [] d e k h = keeps-along most d e k cc
+drafted-keeps most form n (line ∷ lines) d e k h = step (with_script_line form line d) refl h (drafted-keeps most form (n + 1) lines) where
   step : (r : Result Draft ScriptCause) → with_script_line form line d ≡ r → onward n r (λ next. drafted form (n + 1) lines next) ≡ Ok e
-      → ((d e : Draft) → DraftKeeps d → drafted form (n + 1) lines d ≡ Ok e → DraftKeeps e) → DraftKeeps e
-  step (Ok next) is h later = later next e (line-keeps form line d next k is) h
+      → ((d e : Draft) → DraftKeeps most d → drafted form (n + 1) lines d ≡ Ok e → DraftKeeps most e) → DraftKeeps most e
+  step (Ok next) is h later = later next e (line-keeps most form line d next k is) h
   step (Err cause) is h later = cc
 
 -- ---- the whole script
 
-finished-keeps : (f : Form) (d : Draft) → DraftKeeps d → ScriptKeeps (finished f d)
+finished-keeps : (f : Form) (d : Draft) → DraftKeeps (most_clients (is_fifth f)) d → ScriptKeeps (finished f d)
 finished-keeps f d k =
     let clock = and_parts (nat_lt (unwrap_or d.clock no_clock).seconds (2 ^ 32)) _ k.clock in
     let fits = and_parts (nat_le (unwrap_or d.clock no_clock).nanos 999999999) _ clock.1 in
@@ -517,9 +517,9 @@ finished-keeps f d k =
     let nanos : (unwrap_or d.clock no_clock).nanos ≤ 999999999 = grind (arith, nat_tests) in
     let step : (unwrap_or d.clock no_clock).step ≤ 1000000000 = grind (arith, nat_tests) in
     let seed : unwrap_or d.seed 0 < 2 ^ 32 = grind (arith, nat_tests) in
-    record { arguments = k.arguments; texts = k.texts; files = are_files-from d.files k.files; seconds = seconds; nanos = nanos; step = step; seed = seed; hands = are_hands-from d.hands k.hands; connections = are_connections-from d.connections k.connections; arrivals = are_arrivals-from d.arrivals d.came k.arrivals.sound k.arrivals.orderly }
+    record { arguments = k.arguments; texts = k.texts; files = are_files-from d.files k.files; seconds = seconds; nanos = nanos; step = step; seed = seed; hands = are_hands-from d.hands k.hands; connections = are_connections-from d.connections k.connections; arrivals = are_arrivals-from (most_clients (is_fifth f)) d.arrivals d.came k.arrivals.sound k.arrivals.orderly }
 
-finished-script : (f : Form) (r : Result Draft ScriptFault) (s : Setup) → ((d : Draft) → r ≡ Ok d → DraftKeeps d) → finished_result f r ≡ Ok s → is_script s ≡ true
+finished-script : (f : Form) (r : Result Draft ScriptFault) (s : Setup) → ((d : Draft) → r ≡ Ok d → DraftKeeps (most_clients (is_fifth f)) d) → finished_result f r ≡ Ok s → is_script s ≡ true
 finished-script f (Ok d) s keeps h =
     let same : finished f d ≡ s = cc in
     subst (λ (t : Setup). is_script t ≡ true) same (is_script-from (finished f d) (finished-keeps f d (keeps d refl)))
@@ -529,7 +529,7 @@ lines-script : (lines : List (List ℕ)) (s : Setup) → script_of_lines lines �
 lines-script [] s h = cc
 lines-script (first ∷ rest) s h = step (form_of first) h where
   step : (found : Option Form) → script_in found rest ≡ Ok s → is_script s ≡ true
-  step (Some form) h = finished-script form (drafted form 1 rest blank) s (λ d e. drafted-keeps form 1 rest blank d blank-keeps e) h
+  step (Some form) h = finished-script form (drafted form 1 rest (blank form)) s (λ d e. drafted-keeps (most_clients (is_fifth form)) form 1 rest (blank form) d (blank-keeps form) e) h
   step None h = cc
 
 -- every script that a text says keeps to the limits

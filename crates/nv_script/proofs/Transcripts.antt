@@ -9,7 +9,7 @@ use Rattle.nv_text.specs.Numbers.{hex_of}
 use Rattle.nv_text.proofs.Laws.{lines-line}
 use Rattle.nv_arrivals.specs.declared.arrival.ArrivalCause.{ArrivalCause}
 use Rattle.nv_arrivals.specs.Arrivals.{Arrival, Input, InputEnd, ClientsEnd, Connect, Data, End, Time, is_arrival, BringsBytes}
-use Rattle.nv_arrivals.specs.Order.{Came, nothing_came, admitted, onward as onward_in, after, are_orderly}
+use Rattle.nv_arrivals.specs.Order.{Came, most_clients, nothing_came, admitted, onward as onward_in, after, are_orderly}
 use Rattle.nv_arrivals.specs.Writing.{front, is_line, input_text, line_text}
 use Rattle.nv_arrivals.proofs.Orderly.{after-append, after-first, after-none}
 use Rattle.nv_arrivals.proofs.ReadBack.{read_back, line_text-lacks, line_text-begins}
@@ -143,29 +143,29 @@ fifth : form_of (codes "varan-script 5") ≡ Some Fifth
 unfolding form_of
 fifth = refl
 
-pub in-form : (rest : List (List ℕ)) → script_of_lines (codes "varan-script 5" ∷ rest) ≡ finished_result Fifth (drafted Fifth 1 rest blank)
+pub in-form : (rest : List (List ℕ)) → script_of_lines (codes "varan-script 5" ∷ rest) ≡ finished_result Fifth (drafted Fifth 1 rest (blank Fifth))
 in-form rest = ap (λ f. script_in f rest) fifth
 
-went : (arrivals : List Arrival) → are_orderly arrivals ≡ true → (P : Type 0) → ((now : Came) → after arrivals nothing_came ≡ Ok now → P) → P
-went arrivals h P found = step (after arrivals nothing_came) refl h where
-  step : (r : Result Came ArrivalCause) → after arrivals nothing_came ≡ r → is_ok r ≡ true → P
+went : (arrivals : List Arrival) → are_orderly (most_clients true) arrivals ≡ true → (P : Type 0) → ((now : Came) → after arrivals (nothing_came (most_clients true)) ≡ Ok now → P) → P
+went arrivals h P found = step (after arrivals (nothing_came (most_clients true))) refl h where
+  step : (r : Result Came ArrivalCause) → after arrivals (nothing_came (most_clients true)) ≡ r → is_ok r ≡ true → P
   step (Ok now) e h = found now e
   step (Err c) e h = cc
 
-comes-after : (old arrivals : List Arrival) (came now : Came) → after old nothing_came ≡ Ok came → after (old ++ arrivals) nothing_came ≡ Ok now → after arrivals came ≡ Ok now
-comes-after old arrivals came now e h = sym (after-append old arrivals nothing_came ∙ ap (λ r. onward_in r (λ c. after arrivals c)) e) ∙ h
+comes-after : (old arrivals : List Arrival) (came now : Came) → after old (nothing_came (most_clients true)) ≡ Ok came → after (old ++ arrivals) (nothing_came (most_clients true)) ≡ Ok now → after arrivals came ≡ Ok now
+comes-after old arrivals came now e h = sym (after-append old arrivals (nothing_came (most_clients true)) ∙ ap (λ r. onward_in r (λ c. after arrivals c)) e) ∙ h
 
-drafted-more : (body : List (List ℕ)) (arrivals : List Arrival) (s : Setup) (r : Result Draft ScriptFault) → drafted Fifth 1 body blank ≡ r → finished_result Fifth r ≡ Ok s
-    → list_all is_arrival arrivals ≡ true → All BringsBytes arrivals → are_orderly (s.arrivals ++ arrivals) ≡ true
-    → finished_result Fifth (drafted Fifth 1 (body ++ map line_text arrivals) blank) ≡ Ok (continued_by arrivals s)
+drafted-more : (body : List (List ℕ)) (arrivals : List Arrival) (s : Setup) (r : Result Draft ScriptFault) → drafted Fifth 1 body (blank Fifth) ≡ r → finished_result Fifth r ≡ Ok s
+    → list_all is_arrival arrivals ≡ true → All BringsBytes arrivals → are_orderly (most_clients true) (s.arrivals ++ arrivals) ≡ true
+    → finished_result Fifth (drafted Fifth 1 (body ++ map line_text arrivals) (blank Fifth)) ≡ Ok (continued_by arrivals s)
 drafted-more body arrivals s (Err fault) is h sound are orderly = cc
 drafted-more body arrivals s (Ok d) is h sound are orderly =
     let same : finished Fifth d ≡ s = cc in
-    let keeps = drafted-keeps Fifth 1 body blank d blank-keeps is in
-    let whole : are_orderly (d.arrivals ++ arrivals) ≡ true = ap (λ (t : Setup). are_orderly (t.arrivals ++ arrivals)) same ∙ orderly in
-    went (d.arrivals ++ arrivals) whole (finished_result Fifth (drafted Fifth 1 (body ++ map line_text arrivals) blank) ≡ Ok (continued_by arrivals s))
+    let keeps = drafted-keeps (most_clients true) Fifth 1 body (blank Fifth) d (blank-keeps Fifth) is in
+    let whole : are_orderly (most_clients true) (d.arrivals ++ arrivals) ≡ true = ap (λ (t : Setup). are_orderly (most_clients true) (t.arrivals ++ arrivals)) same ∙ orderly in
+    went (d.arrivals ++ arrivals) whole (finished_result Fifth (drafted Fifth 1 (body ++ map line_text arrivals) (blank Fifth)) ≡ Ok (continued_by arrivals s))
     (λ now e.
-    ap (finished_result Fifth) (drafted-append Fifth 1 body (map line_text arrivals) blank d is
+    ap (finished_result Fifth) (drafted-append Fifth 1 body (map line_text arrivals) (blank Fifth) d is
     ∙ arrivals-drafted (1 + length body) arrivals d now sound are (comes-after d.arrivals arrivals d.came now keeps.arrivals.orderly e))
     ∙ ap (λ (t : Setup). Ok (continued_by arrivals t)) same)
 
@@ -178,7 +178,7 @@ ended [] text front e = record { front = front; is = append-nil text ∙ e }
 ended (a ∷ rest) text front e =
     subst Ended (append_assoc text (line_text a ++ 10 ∷ []) (lines_of rest)) (ended rest (text ++ (line_text a ++ 10 ∷ [])) (text ++ line_text a) (sym (append_assoc text (line_text a) (10 ∷ []))))
 
-says : (text : List ℕ) (s : Setup) (arrivals : List Arrival) → IsTranscript text s → list_all is_arrival arrivals ≡ true → All BringsBytes arrivals → are_orderly (s.arrivals ++ arrivals) ≡ true
+says : (text : List ℕ) (s : Setup) (arrivals : List Arrival) → IsTranscript text s → list_all is_arrival arrivals ≡ true → All BringsBytes arrivals → are_orderly (most_clients true) (s.arrivals ++ arrivals) ≡ true
     → script_of (text ++ lines_of arrivals) ≡ Ok (continued_by arrivals s)
 unfolding script_of
 says text s arrivals tells sound are orderly =
@@ -186,11 +186,11 @@ says text s arrivals tells sound are orderly =
     let all : lines (text ++ lines_of arrivals) ≡ codes "varan-script 5" ∷ (lines tells.body ++ map line_text arrivals) =
     lines-ended text tells.front (lines_of arrivals) tells.ends ∙ ap (λ ls. ls ++ lines (lines_of arrivals)) told
     ∙ ap (λ ls. codes "varan-script 5" ∷ (lines tells.body ++ ls)) (lines-arrivals arrivals sound are) in
-    let before : finished_result Fifth (drafted Fifth 1 (lines tells.body) blank) ≡ Ok s = sym (ap script_of_lines told ∙ in-form (lines tells.body)) ∙ tells.says in
+    let before : finished_result Fifth (drafted Fifth 1 (lines tells.body) (blank Fifth)) ≡ Ok s = sym (ap script_of_lines told ∙ in-form (lines tells.body)) ∙ tells.says in
     ap script_of_lines all ∙ in-form (lines tells.body ++ map line_text arrivals)
-    ∙ drafted-more (lines tells.body) arrivals s (drafted Fifth 1 (lines tells.body) blank) refl before sound are orderly
+    ∙ drafted-more (lines tells.body) arrivals s (drafted Fifth 1 (lines tells.body) (blank Fifth)) refl before sound are orderly
 
-pub transcript : (text : List ℕ) (s : Setup) (arrivals : List Arrival) → IsTranscript text s → list_all is_arrival arrivals ≡ true → All BringsBytes arrivals → are_orderly (s.arrivals ++ arrivals) ≡ true
+pub transcript : (text : List ℕ) (s : Setup) (arrivals : List Arrival) → IsTranscript text s → list_all is_arrival arrivals ≡ true → All BringsBytes arrivals → are_orderly (most_clients true) (s.arrivals ++ arrivals) ≡ true
     → IsTranscript (text ++ lines_of arrivals) (continued_by arrivals s)
 transcript text s arrivals tells sound are orderly =
     let end = ended arrivals text tells.front tells.ends in

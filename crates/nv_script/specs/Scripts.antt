@@ -4,7 +4,7 @@ use Rattle.std.specs.List.{list_all, list_any}
 use Rattle.nv_text.specs.Lines.{lines, line_number}
 use Rattle.nv_arrivals.specs.declared.arrival.ArrivalCause.{ArrivalCause}
 use Rattle.nv_arrivals.specs.Arrivals.{Arrival}
-use Rattle.nv_arrivals.specs.Order.{Came, nothing_came, admitted, are_arrivals}
+use Rattle.nv_arrivals.specs.Order.{Came, most_clients, nothing_came, admitted, are_arrivals}
 use Rattle.nv_script.specs.declared.entry.Clock.{Clock}
 use Rattle.nv_script.specs.declared.form.Form.{Form}
 use Rattle.nv_script.specs.declared.fault.ScriptCause.{ScriptCause}
@@ -52,8 +52,9 @@ pub record Draft : Type 0 where
   pub arrivals : List Arrival
   pub came : Came
 
-abbrev pub blank : Draft
-blank = record { arguments = []; input = []; files = []; clock = None; seed = None; hands = []; connections = []; arrivals = []; came = nothing_came }
+-- how many clients may come is by the form
+abbrev pub blank : Form → Draft
+blank f = record { arguments = []; input = []; files = []; clock = None; seed = None; hands = []; connections = []; arrivals = []; came = nothing_came (most_clients (is_fifth f)) }
 
 abbrev pub has_name : List ℕ → List Named → Bool
 has_name name files = list_any (λ file. bytes_eq name file.0) files
@@ -167,7 +168,7 @@ no_form = Err (Line 1 cause.Form)
 -- the lines after the first, by the form that the first names
 abbrev pub script_in : Option Form → List (List ℕ) → Result Setup ScriptFault
 script_in None rest = no_form
-script_in (Some f) rest = finished_result f (drafted f 1 rest blank)
+script_in (Some f) rest = finished_result f (drafted f 1 rest (blank f))
 
 abbrev pub script_of_lines : List (List ℕ) → Result Setup ScriptFault
 script_of_lines [] = no_form
@@ -207,8 +208,8 @@ is_connection connection = is_port connection.0 && nat_le (length connection.1) 
 unfoldable pub are_connections : List Incoming → Bool
 are_connections connections = nat_le (length connections) 64 && list_all is_connection connections
 
--- at most 256 arguments, files, lengths, connections and arrivals as above, and numbers within their limits
+-- at most 256 arguments, files, lengths and connections as above, numbers within their limits, and arrivals that may come after one another, with as many clients as its form may have
 unfoldable pub is_script : Setup → Bool
 is_script setup = nat_le (length setup.arguments) 256 && (list_all is_argument setup.arguments && (are_files setup.files
     && (nat_lt setup.seconds (2 ^ 32) && (nat_le setup.nanos 999999999 && (nat_le setup.step 1000000000 && (nat_lt setup.seed (2 ^ 32) && (are_hands setup.hands
-    && (are_connections setup.connections && are_arrivals setup.arrivals))))))))
+    && (are_connections setup.connections && are_arrivals (most_clients setup.polls) setup.arrivals))))))))

@@ -71,8 +71,8 @@ impl<'a> Model for Draft<'a> {
 }
 
 impl<'a> Draft<'a> {
-    pub fn new(alloc: Global) -> Self
-        ensures { result ≡ blank }
+    pub fn new(alloc: Global, form: Form) -> Self
+        ensures { result ≡ blank form }
     {
         Draft {
             arguments: Vec::new(alloc),
@@ -84,7 +84,7 @@ impl<'a> Draft<'a> {
             hands: Vec::new(alloc),
             connections: Vec::new(alloc),
             arrivals: Vec::new(alloc),
-            order: Order::new(alloc),
+            order: Order::new(alloc, is_fifth(form)),
         }
     }
 

@@ -19,8 +19,8 @@ pub enum ScriptCause {
     Range,
     /// A second clock or seed, a file's name or a length to hand over at that was used before, or what comes after its end.
     Twice,
-    /// More than 256 arguments, 256 files, 8 lengths to hand over at, 64 connections or 65,536 clients, more than 1,048,576 bytes in a file or over a
-    /// connection, or more than 2,000 in an arrival.
+    /// More than 256 arguments, 256 files, 8 lengths to hand over at, 64 connections, or more clients than 65,536, or 4,294,967,296 in the fifth form; more than
+    /// 1,048,576 bytes in a file or over a connection, or more than 2,000 in an arrival.
     Long,
 }
 

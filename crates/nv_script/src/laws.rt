@@ -3,7 +3,7 @@ ghost use Rattle.std.specs.Prelude.{◌≡◌, [], ◌++◌, ◌∷◌, ◌==◌
 ghost use Rattle.std.specs.List.{All, list_all};
 ghost use Rattle.nv_text.specs.Lines.{lines};
 ghost use Rattle.nv_arrivals.specs.Arrivals.{Arrival, is_arrival, BringsBytes};
-ghost use Rattle.nv_arrivals.specs.Order.{are_orderly};
+ghost use Rattle.nv_arrivals.specs.Order.{most_clients, are_orderly};
 ghost use Rattle.nv_script.specs.Scripts.{Setup, script_of};
 ghost use Rattle.nv_script.specs.HandLines.{hand_line, can_plan, planned_too};
 ghost use Rattle.nv_script.specs.Transcripts.{lines_of, continued_by, IsTranscript, says_what_comes};
@@ -11,7 +11,7 @@ ghost use Rattle.nv_script.specs.Transcripts.{lines_of, continued_by, IsTranscri
 /// The text of a script, and after it the lines of what may come after that script's own arrivals, is the script with these arrivals as well.
 #[tactic(auto, using(crate::proofs::Transcripts::transcript))]
 pub fn transcripts_are_scripts()
-    ensures { (text : List ℕ) (setup : Setup) (arrivals : List Arrival) → IsTranscript text setup → list_all is_arrival arrivals ≡ true → All BringsBytes arrivals → are_orderly (setup.arrivals ++ arrivals) ≡ true → IsTranscript (text ++ lines_of arrivals) (continued_by arrivals setup) }
+    ensures { (text : List ℕ) (setup : Setup) (arrivals : List Arrival) → IsTranscript text setup → list_all is_arrival arrivals ≡ true → All BringsBytes arrivals → are_orderly (most_clients true) (setup.arrivals ++ arrivals) ≡ true → IsTranscript (text ++ lines_of arrivals) (continued_by arrivals setup) }
 {}
 
 /// The text of a script of the fifth form, and after it the line of one more planned length, is the script with that length as well.

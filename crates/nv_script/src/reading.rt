@@ -31,10 +31,10 @@ fn add_line<'a>(
 
 // What lines say.
 fn draft_of<'a>(alloc: Global, form: Form, lines: Lines<'a>) -> Result<Draft<'a>, ScriptFault>
-    ensures draft { IfOk result (λ draft. drafted form lines.entry.before lines.entry.left blank ≡ Ok draft) }
-    ensures fault { IfErr result (λ fault. (fault ≡ Memory) ⊎ (drafted form lines.entry.before lines.entry.left blank ≡ Err fault)) }
+    ensures draft { IfOk result (λ draft. drafted form lines.entry.before lines.entry.left (blank form) ≡ Ok draft) }
+    ensures fault { IfErr result (λ fault. (fault ≡ Memory) ⊎ (drafted form lines.entry.before lines.entry.left (blank form) ≡ Err fault)) }
 {
-    let mut draft = Draft::new(alloc);
+    let mut draft = Draft::new(alloc, form);
     for (before, line) in lines {
         if let Err(cause) = add_line(&mut draft, alloc, form, line)? {
             return Err(ScriptFault::Line(line_number(before), cause));

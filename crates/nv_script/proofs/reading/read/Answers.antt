@@ -23,7 +23,7 @@ returns-in_err-draft-clause-fault c =
     let started = script_of-line c.args.bytes.now _ _ (Some c.in-Some-form_of.form) first (sym c.form_of.ensures ∙ c.in-Some-form_of.is) in
     rw (p.1, p.2) (elim c.in_err-draft.ensures.fault [
       | inl memory ↦ inl memory
-      | inr refused ↦ inr (started ∙ ap (finished_result c.in-Some-form_of.form) (ap (λ n. drafted c.in-Some-form_of.form n c.next.new.self.left blank) (sym second) ∙ refused))
+      | inr refused ↦ inr (started ∙ ap (finished_result c.in-Some-form_of.form) (ap (λ n. drafted c.in-Some-form_of.form n c.next.new.self.left (blank c.in-Some-form_of.form)) (sym second) ∙ refused))
     ])
 
 pub returns-clause-script : goal.returns-clause-script
@@ -32,7 +32,7 @@ returns-clause-script c =
     let first = sym (ap (λ (s : LinesLeft). s.left) c.of-lines.ensures) ∙ next.first in
     let second = next.further ∙ ap (λ (s : LinesLeft). s.before + 1) c.of-lines.ensures in
     script_of-line c.args.bytes.now _ _ (Some c.in-Some-form_of.form) first (sym c.form_of.ensures ∙ c.in-Some-form_of.is)
-    ∙ ap (finished_result c.in-Some-form_of.form) (ap (λ n. drafted c.in-Some-form_of.form n c.next.new.self.left blank) (sym second) ∙ c.in_ok-draft.ensures.draft) ∙ ap Ok (sym c.finish.ensures)
+    ∙ ap (finished_result c.in-Some-form_of.form) (ap (λ n. drafted c.in-Some-form_of.form n c.next.new.self.left (blank c.in-Some-form_of.form)) (sym second) ∙ c.in_ok-draft.ensures.draft) ∙ ap Ok (sym c.finish.ensures)
 
 pub returns-clause-sound : goal.returns-clause-sound
 returns-clause-sound c = script_of-keeps c.args.bytes.now _ (returns-clause-script c)
