@@ -1,10 +1,10 @@
-pub mod Begun
+pub mod There
+pub mod Keeping
+pub mod Laid
+pub mod Changed
 pub mod Queue
-pub mod Outputs
 pub mod Small
 pub mod Going
 pub mod Threads
 pub mod Lines
-pub mod Inputs
-pub mod Rooms
 pub mod Standings

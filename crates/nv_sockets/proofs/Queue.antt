@@ -1,40 +1,57 @@
--- The search for a connection that waits, begun past those that were accepted.
-use Rattle.std.proofs.Common.{◌≡◌, ◌∙◌, ap, refl, ℕ, zero, suc, ◌+◌, ◌-◌, ◌<◌, Bool, true, false, cond, List, [], ◌∷◌, length, take, drop, get_or, Option, Some, None, arith}
+-- Those that wait, as one leaves.
+use Rattle.std.proofs.Common.{◌≡◌, ◌∙◌, sym, ap, refl, ℕ, zero, suc, ◌+◌, ◌<◌, Bool, true, false, cond, ◌==◌, List, [], ◌∷◌, Some, None, arith}
+use Rattle.std.specs.Prelude.{remove}
 use Rattle.std.specs.List.{position_from}
-use Rattle.std.proofs.lemmas.List.{take_rest}
-use Rattle.nv_sockets.specs.Sockets.{waits_at_port}
-use Rattle.nv_sockets.specs.Queue.{AcceptedBelow}
+use Rattle.nv_sockets.specs.declared.waiting.Waiting.{Waiting}
+use Rattle.nv_sockets.specs.Sockets.{without}
 
-abbrev later : ℕ → Option ℕ → Option ℕ
-later n None = None
-later n (Some i) = Some (n + i)
+abbrev numbered : ℕ → Waiting → Bool
+numbered i w = w.connection == i
 
-counted_from : {X : Type 0} (p : X → Bool) (n k : ℕ) (xs : List X) → later n (position_from p k xs) ≡ position_from p (n + k) xs
-counted_from p n k [] = refl
-counted_from p n k (x ∷ xs) =
-    let same : n + (k + 1) ≡ n + k + 1 = omega arith in
-    go (p x) (counted_from p n (k + 1) xs ∙ ap (λ m. position_from p m xs) same)
-  where
-    go : (b : Bool) → later n (position_from p (k + 1) xs) ≡ position_from p (n + k + 1) xs → later n (cond b (Some k) (position_from p (k + 1) xs)) ≡ cond b (Some (n + k)) (position_from p (n + k + 1) xs)
-    go true h = refl
-    go false h = h
+by_test : (b : Bool) (P : Type 0) → (b ≡ true → P) → (b ≡ false → P) → P
+by_test true P t f = t refl
+by_test false P t f = f refl
 
--- in what is left from place n on, a place is counted from there
-pub placed : {X : Type 0} (p : X → Bool) (n : ℕ) (xs : List X) (o : Option ℕ) → o ≡ position_from p 0 (take (length xs - n) (drop n xs)) → later n o ≡ position_from p n (drop n xs)
-placed p n xs o h =
-    let same : n + 0 ≡ n = omega arith in
-    ap (later n) (h ∙ ap (position_from p 0) (take_rest xs n)) ∙ (counted_from p n 0 (drop n xs) ∙ ap (λ m. position_from p m (drop n xs)) same)
+module _ (i k : ℕ) (w : Waiting) (ws : List Waiting) where
+  found_here : (w.connection == i) ≡ true → position_from (numbered i) k (w ∷ ws) ≡ Some k
+  found_here h = ap (λ (z : Bool). cond z (Some k) (position_from (numbered i) (k + 1) ws)) h
 
-gone_from : (port n k : ℕ) (xs : List (Option ℕ)) → ((j : ℕ) → j < n → get_or xs j None ≡ None) → position_from (waits_at_port port) (n + k) (drop n xs) ≡ position_from (waits_at_port port) k xs
-gone_from port zero k xs h = let same : 0 + k ≡ k = omega arith in ap (λ m. position_from (waits_at_port port) m xs) same
-gone_from port (suc n) k [] h = refl
-gone_from port (suc n) k (None ∷ xs) h =
-    let same : suc n + k ≡ n + (k + 1) = omega arith in
-    ap (λ m. position_from (waits_at_port port) m (drop n xs)) same ∙ gone_from port n (k + 1) xs (λ j l. h (suc j) (omega arith))
-gone_from port (suc n) k (Some other ∷ xs) h = absurd (let e = h 0 (omega arith) in cc)
+  found_later : (w.connection == i) ≡ false → position_from (numbered i) k (w ∷ ws) ≡ position_from (numbered i) (k + 1) ws
+  found_later h = ap (λ (z : Bool). cond z (Some k) (position_from (numbered i) (k + 1) ws)) h
 
--- past those that were accepted the same one is found
-pub found_past : (port n : ℕ) (xs : List (Option ℕ)) → AcceptedBelow n xs → position_from (waits_at_port port) n (drop n xs) ≡ position_from (waits_at_port port) 0 xs
-found_past port n xs h =
-    let same : n ≡ n + 0 = omega arith in
-    ap (λ m. position_from (waits_at_port port) m (drop n xs)) same ∙ gone_from port n 0 xs h.gone
+module _ (i : ℕ) (w : Waiting) (ws : List Waiting) where
+  leaves_here : (w.connection == i) ≡ true → ws ≡ without i (w ∷ ws)
+  leaves_here h = sym (ap (λ (z : Bool). cond z ws (w ∷ without i ws)) h)
+
+  leaves_later : (w.connection == i) ≡ false → w ∷ without i ws ≡ without i (w ∷ ws)
+  leaves_later h = sym (ap (λ (z : Bool). cond z ws (w ∷ without i ws)) h)
+
+some_same : (m n : ℕ) → Some m ≡ Some n → m ≡ n
+some_same m n e = cc
+
+none_some : (m : ℕ) → Some m ≡ None → ⊥
+none_some m e = cc
+
+-- a place is counted from the first one on
+not_before : (i k m : ℕ) (ws : List Waiting) → m < k → position_from (numbered i) k ws ≡ Some m → ⊥
+not_before i k m [] l e = none_some m (sym e)
+not_before i k m (w ∷ ws) l e =
+    by_test (w.connection == i) ⊥ (λ t. let f = some_same k m (sym (found_here i k w ws t) ∙ e) in omega (arith, f, l))
+    (λ f. not_before i (k + 1) m ws (omega (arith, l)) (sym (found_later i k w ws f) ∙ e))
+
+pub left_none : (i k : ℕ) (ws : List Waiting) → position_from (numbered i) k ws ≡ None → ws ≡ without i ws
+left_none i k [] e = refl
+left_none i k (w ∷ ws) e =
+    by_test (w.connection == i) (w ∷ ws ≡ without i (w ∷ ws)) (λ t. absurd (none_some k (sym (found_here i k w ws t) ∙ e)))
+    (λ f. ap (λ (z : List Waiting). w ∷ z) (left_none i (k + 1) ws (sym (found_later i k w ws f) ∙ e)) ∙ leaves_later i w ws f)
+
+pub left_some : (i k n : ℕ) (ws : List Waiting) → position_from (numbered i) k ws ≡ Some (k + n) → remove ws n ≡ without i ws
+left_some i k n [] e = absurd (none_some (k + n) (sym e))
+left_some i k zero (w ∷ ws) e =
+    by_test (w.connection == i) (ws ≡ without i (w ∷ ws)) (leaves_here i w ws)
+    (λ f. absurd (not_before i (k + 1) (k + 0) ws (omega arith) (sym (found_later i k w ws f) ∙ e)))
+left_some i k (suc n) (w ∷ ws) e =
+    by_test (w.connection == i) (w ∷ remove ws n ≡ without i (w ∷ ws)) (λ t. absurd (let f = some_same k (k + suc n) (sym (found_here i k w ws t) ∙ e) in omega (arith, f)))
+    (λ f.
+    let same : k + suc n ≡ k + 1 + n = omega arith in
+    ap (λ (z : List Waiting). w ∷ z) (left_some i (k + 1) n ws (sym (found_later i k w ws f) ∙ e ∙ ap Some same)) ∙ leaves_later i w ws f)

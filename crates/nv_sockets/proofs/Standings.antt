@@ -1,15 +1,19 @@
 -- Where the host stands, from call to call.
-use Rattle.std.proofs.Common.{◌≡◌, ◌∙◌, sym, ap, subst, ℕ, ℤ, ◌<◌, List, [], ◌∷◌, ◌++◌, arith}
+use Rattle.std.proofs.Common.{◌≡◌, ◌∙◌, sym, ap, subst, ℕ, ℤ, ◌<◌, List, [], ◌∷◌, ◌++◌, length, arith}
+use Rattle.std.specs.Prelude.{slice_index}
 use Rattle.nv_calls.specs.Calls.{Request, Response, Entry}
 use Rattle.nv_calls.specs.Logs.{IsNew, made, served, child_of, calls_of, live_after, live_next}
 use Rattle.nv_calls.specs.Shapes.{IsShaped}
 use Rattle.nv_calls.proofs.LogLaws.{live_more}
 use Rattle.nv_script.specs.Scripts.{Setup}
-use Rattle.nv_kernel.specs.Answering.{MayCome, IsAnswer}
+use Rattle.nv_kernel.specs.Answering.{AtLog, MayCome, IsAnswer}
 use Rattle.nv_kernel.specs.Crew.{IsCrew}
 use Rattle.nv_kernel.proofs.CrewLaws.{first_is}
 use Rattle.nv_kernel.proofs.Crews.{live_by}
 use Rattle.nv_sockets.specs.Serving.{State, Served, start_of_script, first_state, serve, reply_of}
+use Rattle.nv_sockets.specs.declared.host.Host.{Host}
+use Rattle.nv_sockets.specs.Kernel.{HostStands, state_of}
+use Rattle.nv_sockets.specs.Reserved.{Held, Buffered, IsWhole}
 use Rattle.nv_sockets.specs.Standing.{StandsAt}
 use Rattle.nv_sockets.proofs.Going.{log_more, log_count, log_clones, reply_is}
 use Rattle.nv_sockets.proofs.Threads.{ThreadStep, thread_step}
@@ -64,3 +68,34 @@ module _ (s t : State) (c : Request) (ret : ℤ) (payload : List ℕ) (shaped : 
   -- the host answers as the definition says, wherever it stands
   pub is_answer : IsAnswer (λ setup. start_of_script setup) (λ setup log. StandsAt setup log s) (λ setup log. StandsAt setup log t) c ret payload
   is_answer = record { reply = reply; here = next; new = new }
+
+-- the host, of which nothing was let go
+abbrev pub host_at : Host → AtLog
+host_at h = λ setup log. HostStands setup log h
+
+pub host_comes : (h : Host) (c : Request) → MayCome (host_at h) c → MayCome (λ setup log. StandsAt setup log (state_of h)) c
+host_comes h c m = record { setup = m.setup; log = m.log; here = m.here.stands; few = m.few; lives = m.lives }
+
+pub host_answer : (h k : Host) (c : Request) (ret : ℤ) (payload : List ℕ) → (IsWhole h.sockets → IsWhole k.sockets) → k.devices.files.gone ≡ h.devices.files.gone
+    → IsAnswer (λ setup. start_of_script setup) (λ setup log. StandsAt setup log (state_of h)) (λ setup log. StandsAt setup log (state_of k)) c ret payload
+    → IsAnswer (λ setup. start_of_script setup) (host_at h) (host_at k) c ret payload
+host_answer h k c ret payload whole gone a = record {
+  reply = λ setup log s. a.reply setup log s.stands;
+  here = λ setup log s. record { stands = a.here setup log s.stands; whole = whole s.whole; console = gone ∙ s.console };
+  new = λ setup log s. a.new setup log s.stands;
+}
+
+pub host_goes_on : (h k : Host) → state_of k ≡ state_of h → (IsWhole h.sockets → IsWhole k.sockets) → k.devices.files.gone ≡ h.devices.files.gone
+    → (setup : Setup) (log : List Entry) → HostStands setup log h → HostStands setup log k
+host_goes_on h k same whole gone setup log s = record {
+  stands = subst (λ (z : State). StandsAt setup log z) (sym same) s.stands;
+  whole = whole s.whole;
+  console = gone ∙ s.console;
+}
+
+-- the same is there, so it is whole still
+pub whole_still : (v w : Buffered) → v.held ≡ w.held → IsWhole w → IsWhole v
+whole_still v w e h = record {
+  there = ap (λ (z : Held). length z.there) e ∙ h.there ∙ sym (ap (λ (z : Held). length z.gone) e);
+  all = λ i. ap (λ (z : Held). slice_index z.gone i) e ∙ h.all i;
+}

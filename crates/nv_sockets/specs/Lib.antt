@@ -1,5 +1,6 @@
 pub mod Sockets
-pub mod Queue
+pub mod Inboxes
+pub mod Changes
 pub mod Serving
 pub mod Reserved
 pub mod Views

@@ -1,5 +1,5 @@
 -- What the kernel with sockets answers: what the kernel without them does, but for the calls on sockets.
-use Rattle.std.specs.Prelude.{ℕ, ℤ, Bool, min, nat_lt, List, [], ◌∷◌, map, Option, Some, None, option_map, if◌then◌else◌}
+use Rattle.std.specs.Prelude.{ℕ, ◌+◌, ℤ, Bool, true, min, nat_lt, List, [], ◌∷◌, map, Option, Some, None, option_map, if◌then◌else◌}
 use Rattle.nv_calls.specs.declared.numbers.Syscall.{Syscall}
 use Rattle.nv_calls.specs.declared.numbers.Syscall.TheVariants as call
 use Rattle.nv_calls.specs.Calls.{Request, Response}
@@ -10,7 +10,8 @@ use Rattle.nv_script.specs.Scripts.{Incoming, Setup}
 use Rattle.nv_kernel.specs.Serving as kernel
 use Rattle.nv_kernel.specs.Serving.{request_arg}
 use Rattle.nv_sockets.specs.declared.socket.Socket.{Socket}
-use Rattle.nv_sockets.specs.Sockets.{Link, Net, Answer, answer, no_sockets, socket_at, socket_of, bind_of, listen_of, accept_of, read_socket, write_socket, close_socket}
+use Rattle.nv_sockets.specs.declared.waiting.Waiting.{Waiting}
+use Rattle.nv_sockets.specs.Sockets.{Link, Net, Answer, answer, no_sockets, output_limit, socket_at, socket_of, bind_of, listen_of, accept_of, read_socket, write_socket, close_socket}
 
 -- ---- the calls on sockets
 
@@ -30,8 +31,8 @@ answered call.Listen net c = Some (listen_of net (request_arg c 0))
 answered call.Accept net c = Some (accept_of net (request_arg c 0) 0)
 answered call.Accept4 net c = Some (accept_of net (request_arg c 0) (request_arg c 3))
 answered call.Close net c = of_open net (request_arg c 0) (close_socket net (request_arg c 0))
-answered call.Read net c = of_open net (request_arg c 0) (read_socket net (request_arg c 0) (min (request_arg c 2) MOST_BYTES))
-answered call.Readv net c = unless_many (request_arg c 2) (of_open net (request_arg c 0) (read_socket net (request_arg c 0) (min (request_arg c 3) MOST_BYTES)))
+answered call.Read net c = of_open net (request_arg c 0) (read_socket net (min (request_arg c 2) MOST_BYTES))
+answered call.Readv net c = unless_many (request_arg c 2) (of_open net (request_arg c 0) (read_socket net (min (request_arg c 3) MOST_BYTES)))
 answered call.Write net c = of_open net (request_arg c 0) (write_socket net c.payload)
 answered call.Writev net c = unless_many (request_arg c 2) (of_open net (request_arg c 0) (write_socket net c.payload))
 answered _ net c = None
@@ -90,16 +91,18 @@ start_at s = record {
   connections = λ cs. map link_written (state_after s cs).net.links;
 }
 
--- a connection to which nothing was written
+-- a connection to which nothing was written, and over which all has come
 abbrev pub link_from : Incoming → Link
-link_from connection = record { port = connection.0; input = connection.1; output = [] }
+link_from connection = record { port = connection.0; inbox = Some record { unread = connection.1; over = true }; output = [] }
 
-abbrev pub port_from : Incoming → Option ℕ
-port_from connection = Some connection.0
+-- they wait in their order, with the numbers from this one on
+abbrev pub waiting_from : ℕ → List Incoming → List Waiting
+waiting_from i [] = []
+waiting_from i (connection ∷ more) = record { port = connection.0; connection = i } ∷ waiting_from (i + 1) more
 
 -- all connections wait
 abbrev pub first_net : Bool → List Incoming → Net
-first_net polls connections = record { sockets = no_sockets polls; waiting = map port_from connections; links = map link_from connections }
+first_net polls connections = record { sockets = no_sockets polls; waiting = waiting_from 0 connections; links = map link_from connections; limit = output_limit polls }
 
 -- what a script gives
 abbrev pub first_state : Setup → State

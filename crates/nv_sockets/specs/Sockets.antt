@@ -1,21 +1,29 @@
 -- Sockets over the connections of a script (socket(2), bind(2), listen(2), accept(2), ip(7)), as lists whose places are the numbers.
-use Rattle.std.specs.Prelude.{ℕ, ◌+◌, ◌-◌, ◌*◌, ℤ, pos, Bool, false, ◌&&◌, ◌||◌, ◌==◌, nat_lt, nat_le, List, [], ◌++◌, length, take, drop, replicate, Option, Some, None, is_none, slice_index, slice_index_or, slice_set, if◌then◌else◌}
+use Rattle.std.specs.Prelude.{ℕ, ◌+◌, ◌-◌, ◌*◌, ℤ, pos, Bool, false, ◌&&◌, ◌||◌, ◌==◌, min, nat_lt, nat_le, List, [], ◌∷◌, ◌++◌, length, take, drop, replicate, Option, Some, None, is_none, is_some, not, true, option_map, slice_index, slice_index_or, slice_set, if◌then◌else◌}
 use Rattle.std.specs.List.{list_any, position_from}
 use Rattle.nv_calls.specs.Errors.{EBADF, EAGAIN, EINVAL, EMFILE, ENOSPC, EPIPE, ENOTSOCK, EADDRINUSE, ENOTCONN}
+use Rattle.nv_fs.specs.Stored.{MOST_WRITTEN}
 use Rattle.nv_sockets.specs.declared.socket.Socket.{Socket}
 use Rattle.nv_sockets.specs.declared.socket.Socket.TheVariants.{Fresh, Bound, Listening, Connected}
+use Rattle.nv_sockets.specs.declared.waiting.Waiting.{Waiting}
 
--- a connection: the port that it comes to, all that it sends, and what was written to it
+-- what has come over a connection and isn't read yet, and whether the client has sent all
+pub record Inbox : Type 0 where
+  pub unread : List ℕ
+  pub over : Bool
+
+-- a connection: the port that it comes to, what comes over it until the guests close it, and what was written to it
 pub record Link : Type 0 where
   pub port : ℕ
-  pub input : List ℕ
+  pub inbox : Option Inbox
   pub output : List ℕ
 
--- The sockets of the descriptors from 64 on; of each connection the port at which it waits until it is accepted; and the connections.
+-- The sockets of the descriptors from 64 on; the connections that wait to be accepted, in the order in which they came; all connections; and how many bytes each takes.
 pub record Net : Type 0 where
   pub sockets : List (Option Socket)
-  pub waiting : List (Option ℕ)
+  pub waiting : List Waiting
   pub links : List Link
+  pub limit : ℕ
 
 -- what a call leaves, its result, and the bytes that it hands out
 pub record Answer : Type 0 where
@@ -35,6 +43,10 @@ only net ret = answer net ret []
 -- how many descriptors sockets have, from 64 on: 960 where the later calls are in the table, so that there are 1,024 in all
 unfoldable pub socket_count : Bool → ℕ
 socket_count polls = if polls then 960 else 64
+
+-- how many bytes may be written to a connection: as many as 64 bits count where the later calls are in the table
+unfoldable pub output_limit : Bool → ℕ
+output_limit polls = if polls then 18446744073709551615 else 1048576
 
 -- no socket is open
 unfoldable pub no_sockets : Bool → List (Option Socket)
@@ -106,7 +118,7 @@ has_port port None = false
 has_port port (Some Fresh) = false
 has_port port (Some (Bound other)) = other == port
 has_port port (Some (Listening other)) = other == port
-has_port port (Some (Connected i read)) = false
+has_port port (Some (Connected i)) = false
 
 -- an open socket is bound to the port
 unfoldable pub is_used : Net → ℕ → Bool
@@ -120,7 +132,7 @@ abbrev pub bind_socket : Net → ℕ → ℕ → List ℕ → Socket → Answer
 bind_socket net fd size address Fresh = if is_size size then bind_to net fd (port_in address) else only net EINVAL
 bind_socket net fd size address (Bound port) = only net EINVAL
 bind_socket net fd size address (Listening port) = only net EINVAL
-bind_socket net fd size address (Connected i read) = only net EINVAL
+bind_socket net fd size address (Connected i) = only net EINVAL
 
 unfoldable pub bind_of : Net → ℕ → ℕ → List ℕ → Answer
 bind_of net fd size address = on_socket net fd (socket_at net fd) (bind_socket net fd size address)
@@ -131,36 +143,41 @@ abbrev pub listen_socket : Net → ℕ → Socket → Answer
 listen_socket net fd Fresh = only net EINVAL
 listen_socket net fd (Bound port) = answer (with_socket net fd (Some (Listening port))) (pos 0) []
 listen_socket net fd (Listening port) = only net (pos 0)
-listen_socket net fd (Connected i read) = only net EINVAL
+listen_socket net fd (Connected i) = only net EINVAL
 
 unfoldable pub listen_of : Net → ℕ → Answer
 listen_of net fd = on_socket net fd (socket_at net fd) (listen_socket net fd)
 
 -- ---- accept(2)
 
-abbrev pub waits_at_port : ℕ → Option ℕ → Bool
-waits_at_port port None = false
-waits_at_port port (Some other) = other == port
+-- the first connection that waits at the port
+abbrev pub first_at : ℕ → List Waiting → Option ℕ
+first_at port [] = None
+first_at port (w ∷ ws) = if w.port == port then Some w.connection else first_at port ws
 
--- the first connection that waits at the port, in the script's order
 unfoldable pub next_at : Net → ℕ → Option ℕ
-next_at net port = position_from (waits_at_port port) 0 net.waiting
+next_at net port = first_at port net.waiting
+
+-- all but the first of this number
+abbrev pub without : ℕ → List Waiting → List Waiting
+without i [] = []
+without i (w ∷ ws) = if w.connection == i then ws else w ∷ without i ws
 
 -- the connection waits no longer
 abbrev pub with_accepted : Net → ℕ → Net
-with_accepted net i = record net { waiting = slice_set net.waiting i None }
+with_accepted net i = record net { waiting = without i net.waiting }
 
 -- EAGAIN in place of waiting
 abbrev pub accept_next : Net → Option ℕ → Option ℕ → Answer
 accept_next net None next = only net EMFILE
 accept_next net (Some place) None = only net EAGAIN
-accept_next net (Some place) (Some i) = socket_opened (with_accepted net i) place (Connected i 0)
+accept_next net (Some place) (Some i) = socket_opened (with_accepted net i) place (Connected i)
 
 abbrev pub accept_socket : Net → Socket → Answer
 accept_socket net Fresh = only net EINVAL
 accept_socket net (Bound port) = only net EINVAL
 accept_socket net (Listening port) = accept_next net (free_place net) (next_at net port)
-accept_socket net (Connected i read) = only net EINVAL
+accept_socket net (Connected i) = only net EINVAL
 
 abbrev pub accept_flagged : Net → ℕ → Socket → Answer
 accept_flagged net flags socket = if are_flags flags then accept_socket net socket else only net EINVAL
@@ -172,45 +189,80 @@ accept_of net fd flags = on_socket net fd (socket_at net fd) (accept_flagged net
 
 -- the connection of a number; nothing where there is none
 abbrev pub link_at : Net → ℕ → Link
-link_at net i = slice_index_or net.links i record { port = 0; input = []; output = [] }
+link_at net i = slice_index_or net.links i record { port = 0; inbox = None; output = [] }
 
-abbrev pub input_of : Net → ℕ → List ℕ
-input_of net i = (link_at net i).input
+abbrev pub unread_in : Option Inbox → List ℕ
+unread_in None = []
+unread_in (Some inbox) = inbox.unread
+
+-- what has come over a connection and isn't read yet; nothing where it is closed
+abbrev pub unread_of : Net → ℕ → List ℕ
+unread_of net i = unread_in (link_at net i).inbox
+
+abbrev pub over_in : Option Inbox → Bool
+over_in None = true
+over_in (Some inbox) = inbox.over
+
+-- something has come that isn't read yet
+abbrev pub has_unread : Net → ℕ → Bool
+has_unread net i = not (length (unread_of net i) == 0)
+
+-- nothing more comes over a connection: the client has sent all, or it is closed
+abbrev pub is_over : Net → ℕ → Bool
+is_over net i = over_in (link_at net i).inbox
+
+-- the guests haven't closed the connection
+abbrev pub is_going : Net → ℕ → Bool
+is_going net i = is_some (link_at net i).inbox
 
 abbrev pub link_output : Net → ℕ → List ℕ
 link_output net i = (link_at net i).output
 
--- at most n bytes of what is left
-abbrev pub read_link : Net → ℕ → ℕ → ℕ → ℕ → Answer
-read_link net fd i read n =
-    let part = take n (drop read (input_of net i)) in
-    answer (with_socket net fd (Some (Connected i (read + length part)))) (pos (length part)) part
+-- a connection as this makes of it
+abbrev pub with_link : Net → ℕ → Link → Net
+with_link net i link = record net { links = slice_set net.links i link }
 
-abbrev pub read_socket : Net → ℕ → ℕ → Socket → Answer
-read_socket net fd n Fresh = only net ENOTCONN
-read_socket net fd n (Bound port) = only net ENOTCONN
-read_socket net fd n (Listening port) = only net ENOTCONN
-read_socket net fd n (Connected i read) = read_link net fd i read n
+abbrev pub with_inbox : Net → ℕ → (Inbox → Inbox) → Net
+with_inbox net i change = with_link net i (record (link_at net i) { inbox = option_map change (link_at net i).inbox })
+
+-- at most n bytes of what isn't read
+abbrev pub read_link : Net → ℕ → ℕ → Answer
+read_link net i n =
+    let part = take n (unread_of net i) in
+    answer (with_inbox net i (λ inbox. record inbox { unread = drop n inbox.unread })) (pos (length part)) part
+
+abbrev pub read_socket : Net → ℕ → Socket → Answer
+read_socket net n Fresh = only net ENOTCONN
+read_socket net n (Bound port) = only net ENOTCONN
+read_socket net n (Listening port) = only net ENOTCONN
+read_socket net n (Connected i) = read_link net i n
 
 -- ---- write(2) and writev(2)
 
 abbrev pub with_output : Net → ℕ → List ℕ → Net
-with_output net i bytes = record net { links = slice_set net.links i (record (link_at net i) { output = bytes }) }
+with_output net i bytes = with_link net i (record (link_at net i) { output = bytes })
 
 -- a connection takes as many bytes as fit the limit
-abbrev pub write_link : Net → ℕ → ℕ → List ℕ → Answer
-write_link net limit i bytes =
+abbrev pub write_link : Net → ℕ → List ℕ → Answer
+write_link net i bytes =
     if length bytes == 0 then only net (pos 0)
-    else (if nat_le limit (length (link_output net i)) then only net ENOSPC
-    else (let part = take (limit - length (link_output net i)) bytes in answer (with_output net i (link_output net i ++ part)) (pos (length part)) []))
+    else (if not (is_going net i) then only net EPIPE
+    else (if nat_le net.limit (length (link_output net i)) then only net ENOSPC
+    else (let part = take (min MOST_WRITTEN (net.limit - length (link_output net i))) bytes in answer (with_output net i (link_output net i ++ part)) (pos (length part)) [])))
 
 abbrev pub write_socket : Net → List ℕ → Socket → Answer
 write_socket net bytes Fresh = only net EPIPE
 write_socket net bytes (Bound port) = only net EPIPE
 write_socket net bytes (Listening port) = only net EPIPE
-write_socket net bytes (Connected i read) = write_link net 1048576 i bytes
+write_socket net bytes (Connected i) = write_link net i bytes
 
--- ---- close(2): what was written to the connection stays
+-- ---- close(2): what was written to the connection stays, and of what comes over it nothing
+
+abbrev pub closed_link : Net → Socket → Net
+closed_link net Fresh = net
+closed_link net (Bound port) = net
+closed_link net (Listening port) = net
+closed_link net (Connected i) = with_link net i (record (link_at net i) { inbox = None })
 
 abbrev pub close_socket : Net → ℕ → Socket → Answer
-close_socket net fd socket = answer (with_socket net fd None) (pos 0) []
+close_socket net fd socket = answer (closed_link (with_socket net fd None) socket) (pos 0) []

@@ -11,7 +11,8 @@ use nv_calls::errors::{EAGAIN, EINVAL, EMFILE};
 #[tactic(auto, unfolding(crate::specs::Sockets::accept_of))]
 impl Sockets {
     fn accept_next(&mut self, port: u32) -> i32
-        ensures { accept_next self.old.net (free_place self.old.net) (next_at self.old.net port) ≡ answer self.new.net result [] }
+        ensures answer { accept_next self.old.net (free_place self.old.net) (next_at self.old.net port) ≡ answer self.new.net result [] }
+        ensures held { self.new.held ≡ self.old.held }
     {
         let Some(place) = self.free_place() else {
             return EMFILE;
@@ -20,26 +21,22 @@ impl Sockets {
             return EAGAIN;
         };
         self.leave_queue(i);
-        self.install(
-            place,
-            Socket::Connected {
-                connection: i,
-                at: 0,
-            },
-        )
+        self.install(place, Socket::Connected(i))
     }
 
     fn accept_socket(&mut self, socket: Socket) -> i32
-        ensures { accept_socket self.old.net socket ≡ answer self.new.net result [] }
+        ensures answer { accept_socket self.old.net socket ≡ answer self.new.net result [] }
+        ensures held { self.new.held ≡ self.old.held }
     {
         match socket {
             Socket::Listening(port) => self.accept_next(port),
-            Socket::Fresh | Socket::Bound(_) | Socket::Connected { .. } => EINVAL,
+            Socket::Fresh | Socket::Bound(_) | Socket::Connected(_) => EINVAL,
         }
     }
 
     fn accept_flagged(&mut self, flags: u32, socket: Socket) -> i32
-        ensures { accept_flagged self.old.net flags socket ≡ answer self.new.net result [] }
+        ensures answer { accept_flagged self.old.net flags socket ≡ answer self.new.net result [] }
+        ensures held { self.new.held ≡ self.old.held }
     {
         if !are_flags(flags) {
             return EINVAL;
@@ -49,7 +46,8 @@ impl Sockets {
 
     /// accept(2), and accept4(2) with these flags.
     pub(crate) fn accept(&mut self, fd: u32, flags: u32) -> i32
-        ensures { accept_of self.old.net fd flags ≡ answer self.new.net result [] }
+        ensures answer { accept_of self.old.net fd flags ≡ answer self.new.net result [] }
+        ensures held { self.new.held ≡ self.old.held }
     {
         let Some(socket) = self.at(fd) else {
             return fault_of(fd);

@@ -74,7 +74,8 @@ fn port_in(address: &[u8]) -> Option<u32>
 impl Sockets {
     /// socket(2).
     pub(crate) fn make_socket(&mut self, domain: u32, kind: u32, protocol: u32) -> i32
-        ensures { socket_of self.old.net domain kind protocol ≡ answer self.new.net result [] }
+        ensures answer { socket_of self.old.net domain kind protocol ≡ answer self.new.net result [] }
+        ensures held { self.new.held ≡ self.old.held }
     {
         if !is_tcp(domain, kind, protocol) {
             return EINVAL;
@@ -88,7 +89,8 @@ impl Sockets {
     fn bind_to(&mut self, fd: u32, port: Option<u32>) -> i32
         requires low { 64 ≤ fd }
         requires high { fd < 64 + length self.old.net.sockets }
-        ensures { bind_to self.old.net fd port ≡ answer self.new.net result [] }
+        ensures answer { bind_to self.old.net fd port ≡ answer self.new.net result [] }
+        ensures held { self.new.held ≡ self.old.held }
     {
         let Some(port) = port else {
             return EINVAL;
@@ -103,11 +105,12 @@ impl Sockets {
     fn bind_socket(&mut self, fd: u32, size: u32, address: &[u8], socket: Socket) -> i32
         requires low { 64 ≤ fd }
         requires high { fd < 64 + length self.old.net.sockets }
-        ensures { bind_socket self.old.net fd size address.now socket ≡ answer self.new.net result [] }
+        ensures answer { bind_socket self.old.net fd size address.now socket ≡ answer self.new.net result [] }
+        ensures held { self.new.held ≡ self.old.held }
     {
         match socket {
             Socket::Fresh => {}
-            Socket::Bound(_) | Socket::Listening(_) | Socket::Connected { .. } => return EINVAL,
+            Socket::Bound(_) | Socket::Listening(_) | Socket::Connected(_) => return EINVAL,
         }
         if !is_size(size) {
             return EINVAL;
@@ -118,7 +121,8 @@ impl Sockets {
 
     /// bind(2), of an address of this size with these first bytes.
     pub(crate) fn bind(&mut self, fd: u32, size: u32, address: &[u8]) -> i32
-        ensures { bind_of self.old.net fd size address.now ≡ answer self.new.net result [] }
+        ensures answer { bind_of self.old.net fd size address.now ≡ answer self.new.net result [] }
+        ensures held { self.new.held ≡ self.old.held }
     {
         let Some(socket) = self.at(fd) else {
             return fault_of(fd);
@@ -129,7 +133,8 @@ impl Sockets {
     fn listen_socket(&mut self, fd: u32, socket: Socket) -> i32
         requires low { 64 ≤ fd }
         requires high { fd < 64 + length self.old.net.sockets }
-        ensures { listen_socket self.old.net fd socket ≡ answer self.new.net result [] }
+        ensures answer { listen_socket self.old.net fd socket ≡ answer self.new.net result [] }
+        ensures held { self.new.held ≡ self.old.held }
     {
         match socket {
             Socket::Bound(port) => {
@@ -137,13 +142,14 @@ impl Sockets {
                 0
             }
             Socket::Listening(_) => 0,
-            Socket::Fresh | Socket::Connected { .. } => EINVAL,
+            Socket::Fresh | Socket::Connected(_) => EINVAL,
         }
     }
 
     /// listen(2).
     pub(crate) fn listen(&mut self, fd: u32) -> i32
-        ensures { listen_of self.old.net fd ≡ answer self.new.net result [] }
+        ensures answer { listen_of self.old.net fd ≡ answer self.new.net result [] }
+        ensures held { self.new.held ≡ self.old.held }
     {
         let Some(socket) = self.at(fd) else {
             return fault_of(fd);

@@ -5,7 +5,7 @@ ghost use Rattle.nv_calls.specs.Limits.{MOST_EVENTS};
 ghost use Rattle.nv_script.specs.Views.{setup_of};
 ghost use Rattle.nv_kernel.specs.Reserved.{CanAnswer, most_out};
 ghost use Rattle.nv_sockets.specs.Kernel.{state_of};
-ghost use Rattle.nv_sockets.specs.Reserved.{CanSend};
+ghost use Rattle.nv_sockets.specs.Reserved.{CanSend, IsWhole};
 ghost use Rattle.nv_sockets.specs.Serving.{unless_bad, or_own, first_state, serve};
 ghost use Rattle.nv_sockets.specs.Sockets.{answer};
 
@@ -27,6 +27,7 @@ fn answer_beside(sockets: &mut Sockets, call: &Call, own: i32, out: &mut Bytes) 
     requires ready { CanSend sockets.old (request call.now) }
     requires capacity { MOST_BYTES ≤ out.old.capacity }
     ensures answer { or_own sockets.old.net own out.old.bytes (unless_bad sockets.old.net (request call.now)) ≡ answer sockets.new.net result out.new.bytes }
+    ensures held { sockets.new.held ≡ sockets.old.held }
     ensures capacity { out.new.capacity ≡ out.old.capacity }
 {
     if call.bad {
@@ -38,7 +39,9 @@ fn answer_beside(sockets: &mut Sockets, call: &Call, own: i32, out: &mut Bytes) 
 impl Host {
     /// What a script gives.
     pub fn make(alloc: Global, script: &Script) -> Result<Host, AllocError>
-        ensures { IfOk result (λ made. state_of made ≡ first_state (setup_of script.now)) }
+        ensures state { IfOk result (λ made. state_of made ≡ first_state (setup_of script.now)) }
+        ensures whole { IfOk result (λ made. IsWhole made.sockets) }
+        ensures gone { IfOk result (λ made. made.devices.files.gone ≡ 0) }
     {
         let devices = Devices::make(alloc, script)?;
         let sockets = Sockets::make(alloc, script.polls, &script.connections)?;
@@ -60,6 +63,9 @@ impl Host {
         requires capacity { MOST_BYTES ≤ out.old.capacity }
         requires clones { (state_of self.old).own.crew.clones < MOST_EVENTS }
         ensures answer { serve (state_of self.old) (request call.now) ≡ record { state = state_of self.new; ret = result; payload = out.new.bytes } }
+        ensures held { self.new.sockets.held ≡ self.old.sockets.held }
+        ensures whole { IsWhole self.old.sockets → IsWhole self.new.sockets }
+        ensures gone { self.new.devices.files.gone ≡ self.old.devices.files.gone }
         ensures capacity { out.new.capacity ≡ out.old.capacity }
         ensures few { length out.new.bytes ≤ most_out (request call.now) }
     {
@@ -71,6 +77,9 @@ impl Host {
     pub fn reserve(&mut self, call: &Call) -> Result<(), AllocError>
         requires few { length call.now.payload.bytes ≤ MOST_BYTES }
         ensures state { state_of self.new ≡ state_of self.old }
+        ensures held { self.new.sockets.held ≡ self.old.sockets.held }
+        ensures whole { IsWhole self.old.sockets → IsWhole self.new.sockets }
+        ensures gone { self.new.devices.files.gone ≡ self.old.devices.files.gone }
         ensures ready { OnOk result (CanAnswer self.new.devices.files (request call.now)) }
         ensures sends { OnOk result (CanSend self.new.sockets (request call.now)) }
     {

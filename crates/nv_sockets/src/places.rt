@@ -1,11 +1,11 @@
-// What a descriptor names, which are free, and which ports are in use.
-ghost use Rattle.std.specs.Prelude.{◌≡◌, ◌<◌, ◌≤◌, ◌+◌, [], length, drop, is_none, IfSome, slice_index_or, None};
+// What a descriptor names, which are free, which ports are in use, and who waits.
+ghost use Rattle.std.specs.Prelude.{◌≡◌, ◌<◌, ◌≤◌, ◌+◌, ◌==◌, [], length, is_none, IfSome, slice_index_or, None};
 ghost use Rattle.std.specs.List.{position_from, list_any};
-ghost use Rattle.nv_sockets.specs.Queue.{AcceptedBelow};
-ghost use Rattle.nv_sockets.specs.Sockets.{answer, fault_of, socket_at, with_socket, free_place, socket_opened, has_port, is_used, waits_at_port, next_at, with_accepted};
+ghost use Rattle.nv_sockets.specs.Sockets.{answer, fault_of, socket_at, with_socket, free_place, socket_opened, has_port, is_used, first_at, next_at, without, with_accepted};
 
 use crate::socket::Socket;
 use crate::sockets::{FIRST_SOCKET, Sockets};
+use crate::waiting::Waiting;
 use nv_calls::errors::{EBADF, ENOTSOCK};
 
 fn slot(sockets: &[Option<Socket>], place: usize) -> Option<Socket>
@@ -34,7 +34,7 @@ fn has_port(socket: Option<Socket>, port: u32) -> bool
         Some(Socket::Bound(other)) => other == port,
         Some(Socket::Listening(other)) => other == port,
         Some(Socket::Fresh) => false,
-        Some(Socket::Connected { .. }) => false,
+        Some(Socket::Connected(_)) => false,
         None => false,
     }
 }
@@ -45,46 +45,34 @@ fn any_has_port(sockets: &[Option<Socket>], port: u32) -> bool
     sockets.iter().any(|socket| has_port(*socket, port))
 }
 
-fn waits_at_port(waiting: Option<u32>, port: u32) -> bool
-    ensures { result ≡ waits_at_port port waiting }
+// The first that waits at the port.
+fn first_at(waiting: &[Waiting], port: u32) -> Option<usize>
+    ensures { result ≡ first_at port waiting.now }
 {
-    match waiting {
-        Some(other) => other == port,
-        None => false,
+    for one in waiting {
+        if one.port == port {
+            return Some(one.connection);
+        }
     }
+    None
 }
 
-fn first_at(waiting: &[Option<u32>], port: u32) -> Option<usize>
-    ensures is { result ≡ position_from (waits_at_port port) 0 waiting.now }
-    ensures inside { IfSome result (λ i. i < length waiting.now) }
+// Where the first of this number waits.
+fn place_of(waiting: &[Waiting], i: usize) -> Option<usize>
+    ensures is { result ≡ position_from (λ one. one.connection == i) 0 waiting.now }
+    ensures inside { IfSome result (λ place. place < length waiting.now) }
 {
-    waiting
-        .iter()
-        .position(|waiting| waits_at_port(*waiting, port))
+    waiting.iter().position(|one| one.connection == i)
 }
 
-// The first at this place or after it.
-fn first_from(waiting: &[Option<u32>], first: usize, port: u32) -> Option<usize>
-    requires { first ≤ length waiting.now }
-    ensures is { result ≡ position_from (waits_at_port port) first (drop first waiting.now) }
-    ensures inside { IfSome result (λ i. i < length waiting.now) }
+// The first of this number waits no longer.
+fn leave(waiting: &mut Vec<Waiting>, i: usize)
+    ensures { waiting.new.items ≡ without i waiting.old.items }
 {
-    match first_at(&waiting[first..], port) {
-        Some(i) => Some(first + i),
-        None => None,
-    }
-}
-
-// Past those that were accepted.
-fn skip_accepted(waiting: &[Option<u32>], first: usize) -> usize
-    requires { AcceptedBelow first waiting.now }
-    ensures { AcceptedBelow result waiting.now }
-{
-    let mut place = first;
-    while place < waiting.len() && waiting[place].is_none() {
-        place += 1;
-    }
-    place
+    let Some(place) = place_of(waiting.as_slice(), i) else {
+        return;
+    };
+    waiting.remove(place);
 }
 
 /// The error of a call whose descriptor isn't that of an open socket.
@@ -112,7 +100,7 @@ impl Sockets {
     pub(crate) fn put(&mut self, fd: u32, socket: Option<Socket>)
         requires low { 64 ≤ fd }
         requires high { fd < 64 + length self.old.net.sockets }
-        ensures { self.new.net ≡ with_socket self.old.net fd socket }
+        ensures { self.new ≡ record self.old { net = with_socket self.old.net fd socket } }
     {
         self.sockets[(fd - FIRST_SOCKET) as usize] = socket;
     }
@@ -128,7 +116,8 @@ impl Sockets {
     /// A new socket at this place; the answer is its descriptor.
     pub(crate) fn install(&mut self, place: usize, socket: Socket) -> i32
         requires { place < length self.old.net.sockets }
-        ensures { socket_opened self.old.net place socket ≡ answer self.new.net result [] }
+        ensures answer { socket_opened self.old.net place socket ≡ answer self.new.net result [] }
+        ensures held { self.new.held ≡ self.old.held }
     {
         self.sockets[place] = Some(socket);
         (FIRST_SOCKET as usize + place) as i32
@@ -143,18 +132,16 @@ impl Sockets {
 
     /// The first connection that waits at the port.
     pub fn next_at(&self, port: u32) -> Option<usize>
-        ensures is { result ≡ next_at self.now.net port }
-        ensures inside { IfSome result (λ i. i < length self.now.net.waiting) }
+        ensures { result ≡ next_at self.now.net port }
     {
-        first_from(self.waiting.as_slice(), self.first, port)
+        first_at(self.waiting.as_slice(), port)
     }
 
     /// The connection waits no longer.
     pub(crate) fn leave_queue(&mut self, i: usize)
-        requires { i < length self.old.net.waiting }
-        ensures { self.new.net ≡ with_accepted self.old.net i }
+        ensures net { self.new.net ≡ with_accepted self.old.net i }
+        ensures held { self.new.held ≡ self.old.held }
     {
-        self.waiting[i] = None;
-        self.first = skip_accepted(self.waiting.as_slice(), self.first);
+        leave(&mut self.waiting, i);
     }
 }

@@ -9,9 +9,8 @@ impl Answers for Host {
     ghost use Rattle.std.specs.Prelude.{true};
     ghost use Rattle.nv_script.specs.Scripts.{Setup};
     ghost use Rattle.nv_kernel.specs.Codes.{setup_code};
-    ghost use Rattle.nv_sockets.specs.Kernel.{state_of, CanServe};
+    ghost use Rattle.nv_sockets.specs.Kernel.{HostStands, CanServe};
     ghost use Rattle.nv_sockets.specs.Serving.{start_of_script};
-    ghost use Rattle.nv_sockets.specs.Standing.{StandsAt};
 
     ghost Beginning = { Setup };
 
@@ -22,7 +21,7 @@ impl Answers for Host {
     // A script tells all that comes.
     ghost known = { λ setup _. start_of_script setup };
 
-    ghost stands = { λ h setup log. StandsAt setup log (state_of h) };
+    ghost stands = { λ h setup log. HostStands setup log h };
 
     ghost is_ready = { CanServe };
 
@@ -43,10 +42,6 @@ impl Answers for Host {
     fn is_over(&self) -> bool {
         self.is_over()
     }
-
-    fn console(&self) -> &[u8] {
-        self.devices.files.console()
-    }
 }
 
 impl FromScript for Host {
@@ -59,6 +54,10 @@ impl KeepsAll for Host {
     ghost use Rattle.std.specs.Prelude.{refl};
 
     ghost all_kept = { refl };
+
+    fn console(&self) -> &[u8] {
+        self.devices.files.console()
+    }
 }
 
 impl Foretold for Host {

@@ -1,10 +1,10 @@
 // What was written to each connection, as a part of a report.
-ghost use Rattle.std.specs.Prelude.{◌≡◌, ◌+◌, ◌<◌, ◌^◌, length, map};
+ghost use Rattle.std.specs.Prelude.{◌≡◌, ◌+◌, ◌<◌, ◌^◌, ℕ, length, map, slice_index};
 ghost use Rattle.nv_calls.specs.Logs.{connections_of};
 ghost use Rattle.nv_outside.specs.Sink.{Puts};
 ghost use Rattle.nv_sockets.specs.Serving.{start_of_script};
 ghost use Rattle.nv_sockets.specs.Texts.{connection_count_text, connection_text, connection_texts, connections_text};
-ghost use Rattle.nv_sockets.specs.Views.{written_of};
+ghost use Rattle.nv_sockets.specs.Views.{written_of, gone_of};
 
 use crate::connection::Connection;
 use crate::kernel::{SocketKernel, connections};
@@ -26,9 +26,10 @@ fn put_count<S: Sink>(sink: &mut S, connections: usize) -> Put
 }
 
 fn put_line<S: Sink>(sink: &mut S, index: usize, connection: &Connection) -> Put
+    requires { gone_of connection.now ≡ 0 }
     ensures { Puts (S.told sink.old) (S.faults sink.old) (connection_text index (written_of connection.now)) result (S.told sink.new) (S.faults sink.new) }
 {
-    put_written(sink, index, connection.port, connection.output.as_slice())
+    put_written(sink, index, connection.port, connection.output.kept())
 }
 
 fn put_written<S: Sink>(sink: &mut S, index: usize, port: u32, output: &[u8]) -> Put
@@ -53,29 +54,27 @@ fn put_written<S: Sink>(sink: &mut S, index: usize, port: u32, output: &[u8]) ->
     )
 }
 
-// Each connection, with the numbers from `first` on.
-fn put_lines<S: Sink>(sink: &mut S, first: usize, connections: &[Connection]) -> Put
-    requires { first + length connections.now < 2 ^ 64 }
-    ensures { Puts (S.told sink.old) (S.faults sink.old) (connection_texts first (map written_of connections.now)) result (S.told sink.new) (S.faults sink.new) }
+// Each connection, with its number.
+fn put_lines<S: Sink>(sink: &mut S, connections: &[Connection]) -> Put
+    requires { (i : ℕ) → slice_index (map gone_of connections.now) i ≡ 0 }
+    ensures { Puts (S.told sink.old) (S.faults sink.old) (connection_texts 0 (map written_of connections.now)) result (S.told sink.new) (S.faults sink.new) }
 {
-    match connections.split_first() {
-        None => Ok(()),
-        Some((connection, others)) => {
-            put_line(sink, first, connection)?;
-            put_lines(sink, first + 1, others)
-        }
+    for index in 0..connections.len() {
+        put_line(sink, index, &connections[index])?;
     }
+    Ok(())
 }
 
 /// Writes how many connections there are, and of each its number, its port and what was written to it; nothing where there is none. It takes no memory.
 pub fn put_connections<S: Sink>(sink: &mut S, connections: &[Connection]) -> Put
+    requires { (i : ℕ) → slice_index (map gone_of connections.now) i ≡ 0 }
     ensures { Puts (S.told sink.old) (S.faults sink.old) (connections_text (map written_of connections.now)) result (S.told sink.new) (S.faults sink.new) }
 {
     if connections.is_empty() {
         return Ok(());
     }
     put_count(sink, connections.len())?;
-    put_lines(sink, 0, connections)
+    put_lines(sink, connections)
 }
 
 /// Writes a kernel's connections so.

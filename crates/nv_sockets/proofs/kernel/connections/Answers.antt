@@ -3,5 +3,5 @@ use Rattle.nv_sockets.specs.Serving.{State}
 use Rattle.nv_sockets.specs.declared.host.Host.{Host}
 use Rattle.nv_sockets.proofs.kernel.connections.Goals as goal
 
-pub returns : goal.returns
-returns c = c.connections.ensures ∙ ap (λ (h : Host). h.sockets.net.links) c.answers.ensures.is ∙ ap (λ (s : State). s.net.links) c.answers.ensures.stands.state
+pub returns-clause-links : goal.returns-clause-links
+returns-clause-links c = c.connections.ensures.links ∙ ap (λ (h : Host). h.sockets.net.links) c.answers.ensures.is ∙ ap (λ (s : State). s.net.links) c.answers.ensures.stands.stands.state

@@ -7,4 +7,4 @@ use Rattle.nv_sockets.proofs.writing.write_connections.Goals as goal
 
 pub returns : goal.returns
 unfolding start_of_script
-returns g c = puts-is (ap connections_text (written_is c.connections.result.now ∙ ap (map link_written) c.connections.ensures)) c.put_connections.ensures
+returns g c = puts-is (ap connections_text (written_is c.connections.result.now ∙ ap (map link_written) c.connections.ensures.links)) c.put_connections.ensures
