@@ -102,11 +102,11 @@ plus_suc m n = omega arith
 zero_plus : (n : ℕ) → 0 + n ≡ n
 zero_plus n = omega arith
 
-drop_empty : (n : ℕ) → drop {A = Arrival} n [] ≡ []
+drop_empty : {A : Type 0} (n : ℕ) → drop {A = A} n [] ≡ []
 drop_empty zero = refl
 drop_empty (suc n) = refl
 
-pub drop_more : (m n : ℕ) (xs : List Arrival) → drop (m + n) xs ≡ drop n (drop m xs)
+pub drop_more : {A : Type 0} (m n : ℕ) (xs : List A) → drop (m + n) xs ≡ drop n (drop m xs)
 drop_more zero n xs = ap (λ k. drop k xs) (zero_plus n)
 drop_more (suc m) n [] = ap (λ k. drop k []) (plus_suc m n) ∙ sym (drop_empty n)
 drop_more (suc m) n (x ∷ xs) = ap (λ k. drop k (x ∷ xs)) (plus_suc m n) ∙ drop_more m n xs

@@ -5,7 +5,7 @@ use Rattle.std.proofs.lemmas.Bool.Decides.{nat_tests}
 use Rattle.nv_calls.specs.declared.numbers.Syscall.{Syscall}
 use Rattle.nv_calls.specs.declared.numbers.Syscall.TheVariants as call
 use Rattle.nv_calls.specs.Calls.{Request}
-use Rattle.nv_calls.specs.Errors.{EAGAIN, EINVAL, EBADF}
+use Rattle.nv_calls.specs.Errors.{EAGAIN, EINVAL}
 use Rattle.nv_calls.specs.Logs.{made, with_child, IsNew}
 use Rattle.nv_calls.specs.Numbers.{syscall_of}
 use Rattle.nv_calls.specs.Shapes.{IsShaped}

@@ -3,7 +3,8 @@ pub mod Taken
 pub mod LaterLaws
 pub mod Sides
 pub mod Rooms
-pub mod Counts
+pub mod Inboxes
+pub mod Promises
 pub mod Steps
 pub mod Staged
 pub mod Kept

@@ -26,7 +26,7 @@ use Rattle.nv_arriving.specs.Reserved.{input_bytes, IsSameBut, with_memory}
 -- ---- the memory for a call stays
 
 abbrev with_in : Disk → List ℕ → ℕ → Disk
-with_in d x y = record { state = record d.state { input = x }; reserved = record d.reserved { input = y } }
+with_in d x y = record { state = record d.state { input = x }; reserved = record d.reserved { input = y }; gone = d.gone }
 
 target_in : (d : Disk) (x : List ℕ) (y : ℕ) (o : OpenFile) (t : Target) (n : ℕ) → IsReserved d o t n → IsReserved (with_in d x y) o t n
 target_in d x y o target.Console n h = h
@@ -49,19 +49,20 @@ call_in call.Write d x y c h = write_in d x y (request_arg c 0) (length c.payloa
 call_in call.Writev d x y c h = write_in d x y (request_arg c 0) (length c.payload) h
 call_in _ d x y c h = h
 
-pub can_still : (d e : Disk) (c : Request) → e.state ≡ record d.state { input = e.state.input } → e.reserved ≡ record d.reserved { input = e.reserved.input } → CanAnswer d c → CanAnswer e c
-can_still d e c s r h =
-    let same : with_in d e.state.input e.reserved.input ≡ e = λ i. record { state = sym s i; reserved = sym r i } in
+pub can_still : (d e : Disk) (c : Request) → e.state ≡ record d.state { input = e.state.input } → e.reserved ≡ record d.reserved { input = e.reserved.input } → e.gone ≡ d.gone → CanAnswer d c → CanAnswer e c
+can_still d e c s r g h =
+    let same : with_in d e.state.input e.reserved.input ≡ e = λ i. record { state = sym s i; reserved = sym r i; gone = sym g i } in
     subst (λ (z : Disk). CanAnswer z c) same (call_in (syscall_of c.nr) d e.state.input e.reserved.input c h)
 
 pub same_but_none : (d : Disk) → IsSameBut d d
-same_but_none d = record { state = refl; reserved = refl; room = omega arith }
+same_but_none d = record { state = refl; reserved = refl; room = omega arith; gone = refl }
 
 pub same_but_more : (d e f : Disk) → IsSameBut d e → IsSameBut e f → IsSameBut d f
 same_but_more d e f h k = record {
   state = k.state ∙ ap (λ (z : FileState). record z { input = f.state.input }) h.state;
   reserved = k.reserved ∙ ap (λ (z : Reserved). record z { input = f.reserved.input }) h.reserved;
   room = omega (arith, h.room, k.room);
+  gone = k.gone ∙ h.gone;
 }
 
 -- ---- what arrives
@@ -148,24 +149,24 @@ sends_after s c b after n none same h = by (wants s c) refl where
   by (Some w) e = sends_nothing s c after w e
 
 abbrev with_rooms : Buffered → List ℕ → ℕ → ℕ → Buffered
-with_rooms w inputs places waits = record w { inputs = inputs; places = places; waits = waits }
+with_rooms w promised places waits = record w { promised = promised; places = places; waits = waits }
 
-socket_in : (w : Buffered) (inputs : List ℕ) (places waits : ℕ) (o : Option Socket) (n : ℕ) → CanWriteTo w o n → CanWriteTo (with_rooms w inputs places waits) o n
-socket_in w inputs places waits None n h = h
-socket_in w inputs places waits (Some socket.Fresh) n h = h
-socket_in w inputs places waits (Some (socket.Bound port)) n h = h
-socket_in w inputs places waits (Some (socket.Listening port)) n h = h
-socket_in w inputs places waits (Some (socket.Connected i read)) n h = h
+socket_in : (w : Buffered) (promised : List ℕ) (places waits : ℕ) (o : Option Socket) (n : ℕ) → CanWriteTo w o n → CanWriteTo (with_rooms w promised places waits) o n
+socket_in w promised places waits None n h = h
+socket_in w promised places waits (Some socket.Fresh) n h = h
+socket_in w promised places waits (Some (socket.Bound port)) n h = h
+socket_in w promised places waits (Some (socket.Listening port)) n h = h
+socket_in w promised places waits (Some (socket.Connected i)) n h = h
 
-send_in : (w : Buffered) (inputs : List ℕ) (places waits fd n : ℕ) → sockets.CanWrite w fd n → sockets.CanWrite (with_rooms w inputs places waits) fd n
+send_in : (w : Buffered) (promised : List ℕ) (places waits fd n : ℕ) → sockets.CanWrite w fd n → sockets.CanWrite (with_rooms w promised places waits) fd n
 unfolding sockets.CanWrite
-send_in w inputs places waits fd n h = socket_in w inputs places waits (socket_at w.net fd) n h
+send_in w promised places waits fd n h = socket_in w promised places waits (socket_at w.net fd) n h
 
-send_as : (k : Syscall) (w : Buffered) (inputs : List ℕ) (places waits : ℕ) (c : Request) → can_send k w c → can_send k (with_rooms w inputs places waits) c
-send_as call.Write w inputs places waits c h = send_in w inputs places waits (request_arg c 0) (length c.payload) h
-send_as call.Writev w inputs places waits c h = send_in w inputs places waits (request_arg c 0) (length c.payload) h
-send_as _ w inputs places waits c h = h
+send_as : (k : Syscall) (w : Buffered) (promised : List ℕ) (places waits : ℕ) (c : Request) → can_send k w c → can_send k (with_rooms w promised places waits) c
+send_as call.Write w promised places waits c h = send_in w promised places waits (request_arg c 0) (length c.payload) h
+send_as call.Writev w promised places waits c h = send_in w promised places waits (request_arg c 0) (length c.payload) h
+send_as _ w promised places waits c h = h
 
 -- memory of what comes is none of what is written
 pub send_still : (w v : Buffered) (c : Request) → v ≡ with_memory w v → CanSend w c → CanSend v c
-send_still w v c same h = subst (λ (z : Buffered). CanSend z c) (sym same) (send_as (syscall_of c.nr) w v.inputs v.places v.waits c h)
+send_still w v c same h = subst (λ (z : Buffered). CanSend z c) (sym same) (send_as (syscall_of c.nr) w v.promised v.places v.waits c h)

@@ -1,5 +1,5 @@
 -- What a kernel answers and shows, by the stage after the calls served.
-use Rattle.std.proofs.Common.{◌≡◌, ◌∙◌, ap, refl, Bool, true, List, [], ◌∷◌, ◌++◌, map}
+use Rattle.std.proofs.Common.{◌≡◌, ◌∙◌, ap, refl, List, [], ◌∷◌, ◌++◌}
 use Rattle.nv_calls.specs.Calls.{Request, Entry}
 use Rattle.nv_calls.specs.Logs.{calls_of, call_of, output_of}
 use Rattle.nv_script.specs.Scripts.{Setup}
@@ -19,7 +19,3 @@ reply_is setup came log c = refl
 -- the stage after one more entry
 pub log_more : (g : Stage) (log : List Entry) (e : Entry) → stage_after g (calls_of (log ++ e ∷ [])) ≡ serve_next (stage_after g (calls_of log)) e.call
 log_more g log e = ap (stage_after g) (map_more call_of log e) ∙ stage_last g (calls_of log) e.call
-
-pub all_true : {A B : Type 0} (f : A → B) (xs : List A) → map {B = Bool} (λ _. true) xs ≡ map {B = Bool} (λ _. true) (map f xs)
-all_true f [] = refl
-all_true f (x ∷ xs) = ap (λ z. true ∷ z) (all_true f xs)

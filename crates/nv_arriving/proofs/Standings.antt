@@ -18,7 +18,7 @@ use Rattle.nv_arriving.specs.Arriving.{Standing, Stage, wait_of, arrive_all, tak
 use Rattle.nv_arriving.specs.declared.timing.Until.{Until}
 use Rattle.nv_arriving.specs.Timing.{until_of}
 use Rattle.nv_arriving.specs.Doings.{said}
-use Rattle.nv_arriving.specs.Kernel.{Coming, after, Grew}
+use Rattle.nv_arriving.specs.Kernel.{Coming, KeepsOn, after, Grew}
 use Rattle.nv_arriving.specs.Reserved.{Room}
 use Rattle.nv_arriving.specs.Scripted.{start_from}
 use Rattle.nv_arriving.specs.Standing.{StandsAt, StandsListed}
@@ -58,14 +58,14 @@ module _ {O : Type 0} (did : O → O → List Doing → Type 0) (is_over : O →
 
   -- ---- where more comes
 
-  module _ (begun old new : O) (before now : List Arrival) (s : Standing) (used : ℕ) (over over' late : Bool) (room room' : Room)
+  module _ (begun old new : O) (before now : List Arrival) (s : Standing) (used : ℕ) (over over' late keeps : Bool) (room room' : Room)
       (few : used ≤ length before) (was : over' ≡ false → over ≡ false) (same : over ≡ true → now ≡ before) (grew : Grew before now) (adds : Adds did old new (map Takes (after before now)))
       (ended : (over ≡ true → is_over old) → over' ≡ true → is_over new) where
     abbrev earlier : Coming O
-    earlier = record { stage = record { here = s; rest = drop used before }; begun = begun; outside = old; came = before; late = late; over = over; room = room }
+    earlier = record { stage = record { here = s; rest = drop used before }; begun = begun; outside = old; came = before; late = late; over = over; keeps = keeps; room = room }
 
     abbrev later : Coming O
-    later = record { stage = record { here = s; rest = drop used now }; begun = begun; outside = new; came = now; late = late; over = over'; room = room' }
+    later = record { stage = record { here = s; rest = drop used now }; begun = begun; outside = new; came = now; late = late; over = over'; keeps = keeps; room = room' }
 
     pub stands_heard : (setup : Setup) (log : List Entry) → StandsAt did is_over earlier setup log → StandsAt did is_over later setup log
     stands_heard setup log k = record {
@@ -176,19 +176,21 @@ module _ {O : Type 0} (did : O → O → List Doing → Type 0) (is_over : O →
   pub listed_comes : (g : Coming O) (c : Request) → MayCome (StandsListed did is_over g) c → MayCome (StandsAt did is_over g) c
   listed_comes g c m = record { setup = m.setup; log = m.log; here = m.here.here; few = m.few; lives = m.lives }
 
-  pub listed_heard : (g h : Coming O) (setup : Setup) (log : List Entry) → (StandsAt did is_over g setup log → StandsAt did is_over h setup log) → (g.over ≡ true → h.over ≡ true) → (g.over ≡ true → h.came ≡ g.came)
+  pub listed_heard : (g h : Coming O) (setup : Setup) (log : List Entry) → (StandsAt did is_over g setup log → StandsAt did is_over h setup log) → (g.over ≡ true → h.over ≡ true) → (g.over ≡ true → h.came ≡ g.came) → KeepsOn g h
       → StandsListed did is_over g setup log → StandsListed did is_over h setup log
-  listed_heard g h setup log on over came k = record { here = on k.here; over = over k.over; all = came k.over ∙ k.all }
+  listed_heard g h setup log on over came still k = record { here = on k.here; over = over k.over; all = came k.over ∙ k.all; keeps = still.still ∙ k.keeps; kept = still.all k.keeps k.kept }
 
-  pub listed_answer : (g h : Coming O) (c : Request) (ret : ℤ) (payload : List ℕ) → h.over ≡ g.over → h.came ≡ g.came
+  pub listed_answer : (g h : Coming O) (c : Request) (ret : ℤ) (payload : List ℕ) → h.over ≡ g.over → h.came ≡ g.came → KeepsOn g h
       → IsAnswer (λ setup. start_of_arrivals setup g.came) (StandsAt did is_over g) (StandsAt did is_over h) c ret payload
       → IsAnswer start_from (StandsListed did is_over g) (StandsListed did is_over h) c ret payload
-  listed_answer g h c ret payload over came is = record {
+  listed_answer g h c ret payload over came still is = record {
     reply = λ setup log k. subst (λ z. (start_of_arrivals setup z).replies (calls_of log) c ≡ record { ret = ret; payload = payload }) k.all (is.reply setup log k.here);
     here = λ setup log k. record {
       here = subst (λ z. StandsAt did is_over h setup (log ++ served (start_of_arrivals setup z) log c ∷ [])) k.all (is.here setup log k.here);
       over = over ∙ k.over;
       all = came ∙ k.all;
+      keeps = still.still ∙ k.keeps;
+      kept = still.all k.keeps k.kept;
     };
     new = λ setup log k. subst (λ z. IsNew (live_after log) (child_of (served (start_of_arrivals setup z) log c))) k.all (is.new setup log k.here);
   }

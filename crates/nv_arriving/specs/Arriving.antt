@@ -1,6 +1,6 @@
 -- What a kernel whose input arrives answers: a call that would wait takes in what comes, up to what it waits for, and is then served as it always was; the later
 -- calls are answered here.
-use Rattle.std.specs.Prelude.{◌≡◌, ℕ, ◌+◌, ◌*◌, ℤ, pos, negsuc, Bool, true, false, not, ◌&&◌, ◌==◌, nat_lt, nat_le, bit_and, List, [], ◌∷◌, ◌++◌, length, take, drop, map, Option, Some, None, option_map, is_some, is_none, slice_set, if◌then◌else◌}
+use Rattle.std.specs.Prelude.{◌≡◌, ℕ, ◌+◌, ◌*◌, ℤ, pos, Bool, true, false, not, ◌&&◌, ◌==◌, nat_lt, bit_and, List, [], ◌∷◌, ◌++◌, take, drop, map, Option, Some, None, option_map, is_some, is_none, if◌then◌else◌}
 use Rattle.nv_calls.specs.declared.numbers.Syscall.{Syscall}
 use Rattle.nv_calls.specs.declared.numbers.Syscall.TheVariants as call
 use Rattle.nv_calls.specs.Calls.{Request, Response}
@@ -13,9 +13,9 @@ use Rattle.nv_script.specs.Scripts.{Setup}
 use Rattle.nv_kernel.specs.Serving.{request_arg, second}
 use Rattle.nv_sockets.specs.declared.socket.Socket.{Socket}
 use Rattle.nv_sockets.specs.declared.socket.Socket.TheVariants.{Fresh, Bound, Listening, Connected}
-use Rattle.nv_sockets.specs.Sockets.{Net, socket_at, are_flags, free_place, next_at, input_of}
-use Rattle.nv_sockets.specs.Coming.{connected, with_data}
-use Rattle.nv_sockets.specs.Serving.{State, Served, serve, first_state, link_written}
+use Rattle.nv_sockets.specs.Sockets.{Net, socket_at, are_flags, free_place, next_at, has_unread}
+use Rattle.nv_sockets.specs.Coming.{connected, with_data, ended}
+use Rattle.nv_sockets.specs.Serving.{Served, serve, first_state, link_written}
 use Rattle.nv_arriving.specs.declared.timing.Until.{Until}
 use Rattle.nv_arriving.specs.declared.waiting.Want.{Want}
 use Rattle.nv_arriving.specs.declared.waiting.Want.TheVariants as want
@@ -32,8 +32,8 @@ pub use Rattle.nv_arriving.specs.Standings.{Standing, is_over, with_state}
 abbrev pub wants_input : Standing → ℕ → ℕ → Option Want
 wants_input s fd most = if not s.input_over && (not (most == 0) && waits_on_input s.state.own.files fd) then Some want.Input else None
 
-abbrev pub wants_data : Standing → ℕ → ℕ → ℕ → Option Want
-wants_data s i read most = if not (is_over s i) && (not (most == 0) && nat_le (length (input_of s.state.net i)) read) then Some (want.Data i) else None
+abbrev pub wants_data : Standing → ℕ → ℕ → Option Want
+wants_data s i most = if not (is_over s i) && (not (most == 0) && not (has_unread s.state.net i)) then Some (want.Data i) else None
 
 -- a read of at most so many bytes of a descriptor, which may be that of a socket
 abbrev pub read_wants : Standing → ℕ → ℕ → Option Socket → Option Want
@@ -41,7 +41,7 @@ read_wants s fd most None = wants_input s fd most
 read_wants s fd most (Some Fresh) = None
 read_wants s fd most (Some (Bound port)) = None
 read_wants s fd most (Some (Listening port)) = None
-read_wants s fd most (Some (Connected i read)) = wants_data s i read most
+read_wants s fd most (Some (Connected i)) = wants_data s i most
 
 abbrev pub wants_client : Standing → ℕ → Option Want
 wants_client s port = if not s.clients_over && (is_some (free_place s.state.net) && is_none (next_at s.state.net port)) then Some (want.Client port) else None
@@ -51,7 +51,7 @@ accept_wants s flags None = None
 accept_wants s flags (Some Fresh) = None
 accept_wants s flags (Some (Bound port)) = None
 accept_wants s flags (Some (Listening port)) = if are_flags flags then wants_client s port else None
-accept_wants s flags (Some (Connected i read)) = None
+accept_wants s flags (Some (Connected i)) = None
 
 -- what a call would wait for on the descriptor of its first argument, were it to wait
 abbrev pub wants_on : Syscall → Standing → Request → Option Want
@@ -86,9 +86,9 @@ abbrev pub arrive : Standing → Arrival → Standing
 arrive s (Input bytes) = with_input s bytes
 arrive s InputEnd = record s { input_over = true }
 arrive s ClientsEnd = record s { clients_over = true }
-arrive s (Connect port) = record (with_net s (connected s.state.net port)) { overs = s.overs ++ false ∷ [] }
+arrive s (Connect port) = with_net s (connected s.state.net port)
 arrive s (Data i bytes) = with_net s (with_data s.state.net i bytes)
-arrive s (End i) = record s { overs = slice_set s.overs i true }
+arrive s (End i) = with_net s (ended s.state.net i)
 arrive s (Time seconds nanos) = with_time s (seconds * second + nanos)
 
 -- one after another
@@ -96,9 +96,9 @@ abbrev pub arrive_all : Standing → List Arrival → Standing
 arrive_all s [] = s
 arrive_all s (a ∷ xs) = arrive_all (arrive s a) xs
 
--- nothing more comes of anything: of a connection of which nothing is kept all has come
+-- nothing more comes of anything
 abbrev pub with_end : Standing → Standing
-with_end s = record s { input_over = true; clients_over = true; overs = [] }
+with_end s = record s { input_over = true; clients_over = true; data_over = true }
 
 -- where the later calls are in the table, a call that waits in vain is told that nothing more comes
 abbrev pub unless_vain : Bool → Standing → Standing
@@ -203,13 +203,13 @@ start_at g = record {
   connections = λ cs. map link_written (stage_after g cs).here.state.net.links;
 }
 
--- what a script gives; of its own connections all has come
+-- what a script gives
 abbrev pub first_standing : Setup → Standing
 first_standing setup = record {
   state = first_state setup;
   input_over = false;
   clients_over = false;
-  overs = map (λ c. true) setup.connections;
+  data_over = false;
   polls = setup.polls;
   nonblocking = each_waits;
 }

@@ -34,7 +34,7 @@ accepted_as None = []
 accepted_as (Some Fresh) = []
 accepted_as (Some (Bound port)) = []
 accepted_as (Some (Listening port)) = []
-accepted_as (Some (Connected i read)) = Accepted i ∷ []
+accepted_as (Some (Connected i)) = Accepted i ∷ []
 
 -- what accept(2) and accept4(2) answered names a connection now
 abbrev pub accepted : Syscall → Option Socket → List Said
@@ -48,7 +48,7 @@ written net None = []
 written net (Some Fresh) = []
 written net (Some (Bound port)) = []
 written net (Some (Listening port)) = []
-written net (Some (Connected i read)) = link_output net i
+written net (Some (Connected i)) = link_output net i
 
 -- bytes for the connection of a socket
 abbrev pub sent : Option Socket → List ℕ → List Said
@@ -56,11 +56,11 @@ sent None bytes = []
 sent (Some Fresh) bytes = []
 sent (Some (Bound port)) bytes = []
 sent (Some (Listening port)) bytes = []
-sent (Some (Connected i read)) bytes = of_bytes (Sent i) bytes
+sent (Some (Connected i)) bytes = of_bytes (Sent i) bytes
 
 -- a connection's descriptor, of which this was the socket, is none's now
 abbrev pub closed : Option Socket → Option Socket → List Said
-closed (Some (Connected i read)) None = Closed i ∷ []
+closed (Some (Connected i)) None = Closed i ∷ []
 closed _ _ = []
 
 -- A call that finds this, has this result and leaves that has said this. What it sends and closes is the socket of its first argument.

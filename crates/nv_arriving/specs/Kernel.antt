@@ -1,5 +1,5 @@
 -- What answers where input arrives keeps from call to call.
-use Rattle.std.specs.Prelude.{◌≡◌, Bool, false, List, take, drop, length, ◌++◌}
+use Rattle.std.specs.Prelude.{◌≡◌, Bool, true, false, List, take, drop, length, ◌++◌}
 use Rattle.nv_calls.specs.Calls.{Request}
 use Rattle.nv_script.specs.Scripts.{Setup}
 use Rattle.nv_kernel.specs.Reserved as kernel
@@ -7,7 +7,7 @@ use Rattle.nv_sockets.specs.Reserved.{CanSend}
 use Rattle.nv_arrivals.specs.Arrivals.{Arrival}
 use Rattle.nv_arriving.specs.Arrivals.{in_vain}
 use Rattle.nv_arriving.specs.Arriving.{Stage, wait_of, taken}
-use Rattle.nv_arriving.specs.Reserved.{Room, CanTakeIn}
+use Rattle.nv_arriving.specs.Reserved.{Room, CanTakeIn, IsKept}
 
 -- what a kernel is made over: what the script gives, and what the outside told then
 pub record Begun (T : Type 0) : Type 0 where
@@ -15,7 +15,7 @@ pub record Begun (T : Type 0) : Type 0 where
   pub told : T
 
 -- What the kernel holds and what has come and isn't taken in yet, the outside as the kernel was made and as it is, all that has come, whether something of it was heard
--- before its call was served or was more than that took in, whether nothing more comes, and the files and the sockets with their memory.
+-- before its call was served or was more than that took in, whether nothing more comes, whether what is said is kept, and the files and the sockets with their memory.
 pub record Coming (O : Type 0) : Type 0 where
   pub stage : Stage
   pub begun : O
@@ -23,6 +23,7 @@ pub record Coming (O : Type 0) : Type 0 where
   pub came : List Arrival
   pub late : Bool
   pub over : Bool
+  pub keeps : Bool
   pub room : Room
 
 -- what a kernel over it was made over, where a script gave this
@@ -35,6 +36,11 @@ pub record CanServe {O : Type 0} (g : Coming O) (c : Request) : Type 0 where
   pub answer : kernel.CanAnswer g.room.disk c
   pub sends : CanSend g.room.buffered c
   pub waits : g.over ≡ false → in_vain (wait_of g.stage.here c) g.stage.rest ≡ false
+
+-- where what is said is kept, nothing of it was let go since
+pub record KeepsOn {O : Type 0} (g h : Coming O) : Type 0 where
+  pub still : h.keeps ≡ g.keeps
+  pub all : g.keeps ≡ true → IsKept g.room → IsKept h.room
 
 -- more stands behind what was there
 abbrev pub after : {A : Type 0} → List A → List A → List A

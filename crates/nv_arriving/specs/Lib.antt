@@ -6,7 +6,7 @@ pub mod Flags
 pub mod Arrivals
 pub mod Arriving
 pub mod Reserved
-pub mod Counts
+pub mod Prepared
 pub mod Views
 pub mod Kernel
 pub mod Standing

@@ -12,7 +12,7 @@ use Rattle.nv_fs.specs.Waits.{reads_input}
 use Rattle.nv_kernel.specs.Serving.{request_arg}
 use Rattle.nv_sockets.specs.declared.socket.Socket.{Socket}
 use Rattle.nv_sockets.specs.declared.socket.Socket.TheVariants.{Fresh, Bound, Listening, Connected}
-use Rattle.nv_sockets.specs.Sockets.{socket_at, next_at, input_of}
+use Rattle.nv_sockets.specs.Sockets.{socket_at, next_at, has_unread}
 use Rattle.nv_arrivals.specs.Arrivals.{Arrival, Input, InputEnd, ClientsEnd, Connect, Data, End, Time}
 use Rattle.nv_arriving.specs.declared.polled.Polled.{Polled}
 use Rattle.nv_arriving.specs.declared.timing.Until.{Until}
@@ -59,15 +59,15 @@ abbrev pub NOT_OPEN : ℕ
 NOT_OPEN = 0x20
 
 -- a write to a connection never waits; a read doesn't where some is left, or the client has sent all
-abbrev pub connected_events : Standing → ℕ → ℕ → ℕ
-connected_events s i read =
-    WRITABLE + (when (is_over s i || nat_lt read (length (input_of s.state.net i))) READABLE + when (is_over s i) SENT_ALL)
+abbrev pub connected_events : Standing → ℕ → ℕ
+connected_events s i =
+    WRITABLE + (when (is_over s i || has_unread s.state.net i) READABLE + when (is_over s i) SENT_ALL)
 
 abbrev pub socket_events : Standing → Socket → ℕ
 socket_events s Fresh = WRITABLE + HUNG
 socket_events s (Bound port) = WRITABLE + HUNG
 socket_events s (Listening port) = when (is_some (next_at s.state.net port)) READABLE
-socket_events s (Connected i read) = connected_events s i read
+socket_events s (Connected i) = connected_events s i
 
 abbrev pub events_by : Standing → ℕ → Option Socket → Option ℕ
 events_by s fd None = file_events s.state.own.files s.input_over fd
@@ -117,7 +117,7 @@ readies_by s p a None = reads_input (open_of s.state.own.files p.fd) && comes_in
 readies_by s p a (Some Fresh) = false
 readies_by s p a (Some (Bound port)) = false
 readies_by s p a (Some (Listening port)) = calls_at p port a
-readies_by s p a (Some (Connected i read)) = comes_to p i a
+readies_by s p a (Some (Connected i)) = comes_to p i a
 
 -- the arrival makes a descriptor ready that isn't
 unfoldable pub readies : Standing → Arrival → Polled → Bool
@@ -129,7 +129,7 @@ is_source_by s p None = not s.input_over && reads_input (open_of s.state.own.fil
 is_source_by s p (Some Fresh) = false
 is_source_by s p (Some (Bound port)) = false
 is_source_by s p (Some (Listening port)) = false
-is_source_by s p (Some (Connected i read)) = not (is_over s i) && asks p (READABLE + SENT_ALL)
+is_source_by s p (Some (Connected i)) = not (is_over s i) && asks p (READABLE + SENT_ALL)
 
 unfoldable pub is_source : Standing → Polled → Bool
 is_source s p = if is_passed p then false else is_source_by s p (socket_at s.state.net p.fd)

@@ -1,16 +1,14 @@
 -- The memory that was taken in advance for what a call takes in.
-use Rattle.std.specs.Prelude.{◌≡◌, ℕ, suc, ◌+◌, ◌-◌, ◌≤◌, ◌<◌, ◌==◌, ◌||◌, Bool, true, false, List, [], ◌∷◌, length, slice_index}
+use Rattle.std.specs.Prelude.{◌≡◌, ℕ, suc, ◌+◌, ◌-◌, ◌≤◌, ◌<◌, List, [], ◌∷◌, length, slice_index}
 use Rattle.nv_fs.specs.Reserved.{Disk}
-use Rattle.nv_sockets.specs.Reserved.{Buffered}
+use Rattle.nv_sockets.specs.Reserved.{Buffered, IsWhole}
 use Rattle.nv_sockets.specs.Coming.{came_over, HasInput, HasPlaces}
 use Rattle.nv_arrivals.specs.Arrivals.{Arrival, Input, InputEnd, ClientsEnd, Connect, Data, End, Time}
 
--- The files and the sockets with their memory; of how many more clients it can be kept whether they have sent all;
--- and how many bytes fit where the clients' that connect go, those of the last one first.
+-- The files and the sockets with their memory; and for how many bytes of each of the clients that connect memory was taken, those of the last one first.
 pub record Room : Type 0 where
   pub disk : Disk
   pub buffered : Buffered
-  pub flags : ℕ
   pub kept : List ℕ
 
 -- how many bytes come for descriptor 0
@@ -46,18 +44,7 @@ data_of j (Data i bytes ∷ xs) = came_over i bytes j + data_of j xs
 data_of j (End i ∷ xs) = data_of j xs
 data_of j (Time seconds nanos ∷ xs) = data_of j xs
 
--- some of them comes from a client
-abbrev pub sends : ℕ → List Arrival → Bool
-sends j [] = false
-sends j (Input bytes ∷ xs) = sends j xs
-sends j (InputEnd ∷ xs) = sends j xs
-sends j (ClientsEnd ∷ xs) = sends j xs
-sends j (Connect port ∷ xs) = sends j xs
-sends j (Data i bytes ∷ xs) = (i == j) || sends j xs
-sends j (End i ∷ xs) = sends j xs
-sends j (Time seconds nanos ∷ xs) = sends j xs
-
--- where the next client has this number, there is memory for all that connect, and each one's has room for what it sends
+-- where the next client has this number, there is memory for all that connect, and for what each sends
 pub record HasKept (kept : List ℕ) (next : ℕ) (xs : List Arrival) : Type 0 where
   pub many : connects xs ≤ length kept
   pub each : (p : ℕ) → p < length kept → data_of (next + length kept - suc p) xs ≤ slice_index kept p
@@ -66,8 +53,7 @@ pub record HasKept (kept : List ℕ) (next : ℕ) (xs : List Arrival) : Type 0 w
 pub record HasRoom (r : Room) (xs : List Arrival) : Type 0 where
   pub input : length r.disk.state.input + input_bytes xs ≤ r.disk.reserved.input
   pub clients : HasPlaces r.buffered (connects xs)
-  pub flags : connects xs ≤ r.flags
-  pub data_fits : (j : ℕ) → sends j xs ≡ true → HasInput r.buffered j (data_of j xs)
+  pub data_fits : (j : ℕ) → HasInput r.buffered j (data_of j xs)
   pub kept : HasKept r.kept (length r.buffered.net.links) xs
 
 -- there is, or nothing comes
@@ -80,7 +66,13 @@ pub record IsSameBut (d e : Disk) : Type 0 where
   pub state : e.state ≡ record d.state { input = e.state.input }
   pub reserved : e.reserved ≡ record d.reserved { input = e.reserved.input }
   pub room : d.reserved.input ≤ e.reserved.input
+  pub gone : e.gone ≡ d.gone
 
 -- only the memory of what comes over the connections differs, and of those that will be
 abbrev pub with_memory : Buffered → Buffered → Buffered
-with_memory w v = record w { inputs = v.inputs; places = v.places; waits = v.waits }
+with_memory w v = record w { promised = v.promised; places = v.places; waits = v.waits }
+
+-- nothing of what was written was let go, and no connection
+pub record IsKept (r : Room) : Type 0 where
+  pub connections : IsWhole r.buffered
+  pub console : r.disk.gone ≡ 0

@@ -7,6 +7,7 @@ use Rattle.nv_kernel.specs.Crew.{IsCrew}
 use Rattle.nv_arrivals.specs.Doings.{Doing}
 use Rattle.nv_arriving.specs.Arriving.{first_stage, stage_after, Satisfied}
 use Rattle.nv_arriving.specs.Kernel.{Coming}
+use Rattle.nv_arriving.specs.Reserved.{IsKept}
 use Rattle.nv_arriving.specs.Telling.{Tells}
 
 -- The stage is that of the definition after these calls, as far as all came; while more may come none of them waited in vain, and where nothing more comes the outside is over;
@@ -19,8 +20,10 @@ pub record StandsAt {O : Type 0} (did : O → O → List Doing → Type 0) (is_o
   pub live : live_after log ≡ g.stage.here.state.own.crew.live
   pub crew : IsCrew g.stage.here.state.own.crew
 
--- and all has come that the script lists, and nothing more comes
+-- and all has come that the script lists, and nothing more comes; and all that was said is kept
 pub record StandsListed {O : Type 0} (did : O → O → List Doing → Type 0) (is_over : O → Type 0) (g : Coming O) (setup : Setup) (log : List Entry) : Type 0 where
   pub here : StandsAt did is_over g setup log
   pub over : g.over ≡ true
   pub all : g.came ≡ setup.arrivals
+  pub keeps : g.keeps ≡ true
+  pub kept : IsKept g.room

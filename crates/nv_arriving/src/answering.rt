@@ -1,5 +1,5 @@
 // What answers where input arrives.
-ghost use Rattle.std.specs.Prelude.{◌≡◌, ◌≤◌, [], List, false, true, IfOk, OnOk, length, map, take};
+ghost use Rattle.std.specs.Prelude.{◌≡◌, ◌≤◌, ℕ, [], List, false, true, IfOk, OnOk, length, map, take, slice_index};
 ghost use Rattle.nv_calls.specs.Calls.{request, Entry};
 ghost use Rattle.nv_calls.specs.Limits.{MOST_BYTES};
 ghost use Rattle.nv_calls.specs.Shapes.{IsShaped};
@@ -8,11 +8,12 @@ ghost use Rattle.nv_script.specs.Scripts.{Setup};
 ghost use Rattle.nv_script.specs.Views.{setup_of};
 ghost use Rattle.nv_kernel.specs.Answering.{MayCome, IsAnswer};
 ghost use Rattle.nv_kernel.specs.Reserved.{most_out};
-ghost use Rattle.nv_sockets.specs.Views.{link_of};
+ghost use Rattle.nv_sockets.specs.Views.{link_of, gone_of};
 ghost use Rattle.nv_arrivals.specs.Views.{view as arrival_of};
 ghost use Rattle.nv_arriving.specs.Arrivals.{in_vain};
 ghost use Rattle.nv_arriving.specs.Arriving.{taken, wait_of, start_of_arrivals};
-ghost use Rattle.nv_arriving.specs.Kernel.{CanServe, begun_in};
+ghost use Rattle.nv_arriving.specs.Kernel.{CanServe, KeepsOn, begun_in};
+ghost use Rattle.nv_arriving.specs.Reserved.{IsKept};
 ghost use Rattle.nv_arriving.specs.Standing.{StandsAt};
 ghost use Rattle.nv_arriving.specs.Views.{standing_of};
 
@@ -47,6 +48,8 @@ pub struct Guests<O: Outside> {
     late: bool,
     /// Nothing more comes from outside.
     over: bool,
+    /// What is said is kept; else it is let go once it is said.
+    keeps: bool,
 }
 
 impl<O: Outside> Model for Guests<O> {
@@ -64,6 +67,7 @@ impl<O: Outside> Model for Guests<O> {
       came = map arrival_of g.came.items;
       late = g.late;
       over = g.over;
+      keeps = g.keeps;
       room = room_of g.side;
     } };
 
@@ -113,10 +117,16 @@ fn pass(came: &mut Past<Arrival>, used: usize)
 }
 
 impl<O: Outside> Guests<O> {
-    /// What a script gives, and this outside, from which nothing has come.
-    pub fn make(alloc: Global, script: &Script, outside: O) -> Result<Guests<O>, AllocError>
+    /// What a script gives, and this outside, from which nothing has come. What is said is kept, or let go once it is said.
+    pub fn make(
+        alloc: Global,
+        script: &Script,
+        outside: O,
+        keeps: bool,
+    ) -> Result<Guests<O>, AllocError>
         ensures stands { IfOk result (λ made. StandsAt O.did O.is_over made (setup_of script.now) []) }
         ensures made { IfOk result (λ made. (made.came ≡ []) × (made.begun ≡ outside) × (made.outside ≡ outside) × (made.late ≡ false)) }
+        ensures kept { IfOk result (λ made. (made.keeps ≡ keeps) × IsKept made.room) }
     {
         let side = GuestSide::make(alloc, script)?;
         let begun = Snapshot::of(&outside);
@@ -129,14 +139,24 @@ impl<O: Outside> Guests<O> {
             used: 0,
             late: false,
             over: false,
+            keeps,
         })
     }
 
-    /// The connections, those of the script first, each with what was written to it.
+    /// The connections, those of the script first, each with what was written to it, where all is kept.
     pub fn connections(&self) -> &[Connection]
-        ensures { map link_of result.now ≡ self.now.stage.here.state.net.links }
+        requires { IsKept self.now.room }
+        ensures links { map link_of result.now ≡ self.now.stage.here.state.net.links }
+        ensures gone { (i : ℕ) → slice_index (map gone_of result.now) i ≡ 0 }
     {
         self.side.host.sockets.connections()
+    }
+
+    /// The bytes on the console, where all are kept.
+    pub fn console(&self) -> &[u8]
+        ensures { IsKept self.now.room → result.now ≡ self.now.stage.here.state.own.files.console }
+    {
+        self.side.host.devices.files.console()
     }
 
     /// The files, as the calls left them.
@@ -164,7 +184,7 @@ impl<O: Outside> Guests<O> {
 impl Guests<Nothing> {
     /// What a script gives, where all has come that it lists. Nothing more comes.
     pub(crate) fn listed(alloc: Global, script: &Script) -> Result<Guests<Nothing>, AllocError>
-        ensures { IfOk result (λ made. StandsAt ⟦<Nothing as Outside>⟧.did ⟦<Nothing as Outside>⟧.is_over made (setup_of script.now) [] × (made.came ≡ (setup_of script.now).arrivals) × (made.over ≡ true)) }
+        ensures { IfOk result (λ made. StandsAt ⟦<Nothing as Outside>⟧.did ⟦<Nothing as Outside>⟧.is_over made (setup_of script.now) [] × (made.came ≡ (setup_of script.now).arrivals) × (made.over ≡ true) × (made.keeps ≡ true) × IsKept made.room) }
     {
         let side = GuestSide::make(alloc, script)?;
         let came = copies(alloc, script.arrivals.as_slice())?;
@@ -179,6 +199,7 @@ impl Guests<Nothing> {
             used: 0,
             late: false,
             over: true,
+            keeps: true,
         })
     }
 }
@@ -213,6 +234,7 @@ impl<O: Outside + Telling + Send> Answers for Guests<O> {
         ensures ready { OnOk result (CanServe self.new (request call.now)) }
         ensures over { self.old.over ≡ true → self.new.over ≡ true }
         ensures came { self.old.over ≡ true → self.new.came ≡ self.old.came }
+        ensures kept { KeepsOn self.old self.new }
     {
         learn(
             &mut self.outside,
@@ -241,13 +263,20 @@ impl<O: Outside + Telling + Send> Answers for Guests<O> {
         ensures few { length out.new.bytes ≤ most_out (request call.now) }
         ensures over { self.new.over ≡ self.old.over }
         ensures came { self.new.came ≡ self.old.came }
+        ensures kept { KeepsOn self.old self.new }
+        ensures gone { self.old.keeps ≡ false → self.new.room.disk.gone ≡ length self.new.room.disk.state.console }
     {
         let rest = rest(&self.came, self.used);
         let count = taken(&self.side, rest, call);
         let vain = is_in_vain(&self.side, rest, call);
-        let ret = self
-            .side
-            .answer(call, first(rest, count), vain, out, &mut self.outside);
+        let ret = self.side.answer(
+            call,
+            first(rest, count),
+            vain,
+            self.keeps,
+            out,
+            &mut self.outside,
+        );
         self.used += count;
         self.late = is_late(self.late, &self.came, self.used);
         pass(&mut self.came, self.used);
@@ -260,6 +289,7 @@ impl<O: Outside + Telling + Send> Answers for Guests<O> {
         ensures known { (setup : Setup) → start_of_arrivals setup self.new.came ≡ start_of_arrivals setup self.old.came }
         ensures over { self.new.over ≡ self.old.over }
         ensures came { self.new.came ≡ self.old.came }
+        ensures kept { KeepsOn self.old self.new }
     {
         self.outside.hands_over(length)
     }
@@ -270,9 +300,5 @@ impl<O: Outside + Telling + Send> Answers for Guests<O> {
 
     fn is_over(&self) -> bool {
         self.side.host.is_over()
-    }
-
-    fn console(&self) -> &[u8] {
-        self.side.host.devices.files.console()
     }
 }

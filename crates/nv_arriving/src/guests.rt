@@ -1,103 +1,78 @@
 // The guests' side: what the kernel holds, and what won't come any more.
-ghost use Rattle.std.specs.Prelude.{◌≡◌, ◌≤◌, ◌<◌, ◌+◌, ◌++◌, List, length, map, true, false, [], ◌∷◌, None, slice_set, vec_len, vec_capacity, OnOk, IfOk};
+ghost use Rattle.std.specs.Prelude.{◌≡◌, ◌≤◌, ◌<◌, List, length, map, true, false, [], ◌∷◌, None, OnOk, IfOk};
 ghost use Rattle.nv_calls.specs.Calls.{request};
 ghost use Rattle.nv_calls.specs.Limits.{MOST_BYTES, MOST_EVENTS};
 ghost use Rattle.nv_script.specs.Views.{setup_of};
 ghost use Rattle.nv_kernel.specs.Reserved.{CanAnswer, most_out};
+ghost use Rattle.nv_sockets.specs.Coming.{HasPlaces};
 ghost use Rattle.nv_sockets.specs.Reserved.{CanSend};
 ghost use Rattle.nv_arriving.specs.Arriving.{Standing, wants_input, is_over, wants_data, read_wants, wants_client, accept_wants, wants_on, wants_as, wants, arrive, arrive_all, unless_vain, serve_by, first_standing};
 ghost use Rattle.nv_arriving.specs.Timing.{until_of};
 ghost use Rattle.nv_arriving.specs.Doings.{said};
+ghost use Rattle.nv_arriving.specs.Marks.{settled};
 ghost use Rattle.nv_arriving.specs.Telling.{Adds};
-ghost use Rattle.nv_arriving.specs.Reserved.{CanTakeIn, HasRoom, IsSameBut, with_memory};
+ghost use Rattle.nv_arriving.specs.Reserved.{CanTakeIn, HasRoom, IsSameBut, IsKept, with_memory};
 ghost use Rattle.nv_arrivals.specs.Arrivals as spec;
 ghost use Rattle.nv_arrivals.specs.Doings.{Says};
 ghost use Rattle.nv_arrivals.specs.Views.{view as arrival_of};
-ghost use Rattle.nv_arriving.specs.Views.{standing_of, room_of, capacity_of};
+ghost use Rattle.nv_arriving.specs.Views.{standing_of, room_of};
 
-use crate::counting::Counts;
 use crate::nonblocking::NonBlocking;
-use crate::reserving::{connects, input_bytes};
+use crate::prepared::Prepared;
+use crate::reserving::{connects, forget_all, input_bytes, promise_all};
 use crate::saying::Mark;
 use crate::waiting::Want;
 use nv_arrivals::{Arrival, Outside};
 use nv_calls::{Bytes, Call, MOST_BYTES, MOST_VECTORS, Syscall};
 use nv_script::Script;
-use nv_sockets::{Host, Socket, are_flags};
+use nv_sockets::{Host, Socket, Sockets, are_flags};
 use std::alloc::{AllocError, Global};
 
-/// What the kernel holds, and what won't come any more: bytes for descriptor 0, clients, and bytes of each connection.
+/// What the kernel holds, and what won't come any more: bytes for descriptor 0, clients, and bytes of any connection.
 #[derive(Drop)]
 pub struct GuestSide {
     pub host: Host,
     pub input_over: bool,
     pub clients_over: bool,
-    pub overs: Vec<bool>,
+    pub data_over: bool,
     /// The later calls are in the table.
     pub polls: bool,
     /// The descriptors whose calls never wait.
     pub nonblocking: NonBlocking,
     alloc: Global,
-    /// Where what clients send goes that will connect, that of the last one first.
-    kept: Vec<Vec<u8>>,
-    counts: Counts,
+    /// Where what clients send goes that will connect.
+    kept: Prepared,
 }
 
-// One more, of which not all has come.
-fn add_going(overs: &mut Vec<bool>)
-    requires { vec_len overs.old < vec_capacity overs.old }
-    ensures items { overs.new.items ≡ overs.old.items ++ false ∷ [] }
-    ensures len { vec_len overs.new ≡ vec_len overs.old + 1 }
-    ensures capacity { vec_capacity overs.old ≤ vec_capacity overs.new }
+// What was written to the connection of a socket is let go, and the connection where the guests have closed it.
+fn settle(sockets: &mut Sockets, socket: Option<Socket>)
+    ensures net { sockets.new.net ≡ sockets.old.net }
+    ensures gone { sockets.new.held.gone ≡ settled sockets.old socket }
 {
-    match overs.push(false) {
-        Ok(()) => {}
-        Err(_) => unreachable!(),
+    match socket {
+        Some(Socket::Connected(i)) => sockets.settle(i),
+        Some(Socket::Fresh) | Some(Socket::Bound(_)) | Some(Socket::Listening(_)) => {}
+        None => {}
     }
-}
-
-// The last of those that are kept, with nothing in it.
-fn take_last(kept: &mut Vec<Vec<u8>>) -> Vec<u8>
-    requires { 0 < vec_len kept.old }
-    ensures empty { result.items ≡ [] }
-    ensures rest { map capacity_of kept.old.items ≡ map capacity_of kept.new.items ++ vec_capacity result ∷ [] }
-{
-    let Some(mut last) = kept.pop() else {
-        unreachable!()
-    };
-    last.clear();
-    last
-}
-
-// So many connections of which all has come.
-fn all_over(alloc: Global, stated: &[(u32, Vec<u8>)]) -> Result<Vec<bool>, AllocError>
-    ensures { IfOk result (λ made. made.items ≡ map (λ _. true) stated.now) }
-{
-    let mut made = Vec::new(alloc);
-    for _connection in stated {
-        made.push(true)?;
-    }
-    Ok(made)
 }
 
 #[tactic(auto, unfolding(crate::specs::Arriving::wants))]
 impl GuestSide {
     /// What a script gives.
     pub fn make(alloc: Global, script: &Script) -> Result<GuestSide, AllocError>
-        ensures { IfOk result (λ made. standing_of made ≡ first_standing (setup_of script.now)) }
+        ensures standing { IfOk result (λ made. standing_of made ≡ first_standing (setup_of script.now)) }
+        ensures kept { IfOk result (λ made. IsKept (room_of made)) }
     {
         let host = Host::make(alloc, script)?;
-        let overs = all_over(alloc, script.connections.as_slice())?;
         Ok(GuestSide {
             host,
             input_over: false,
             clients_over: false,
-            overs,
+            data_over: false,
             polls: script.polls,
             nonblocking: NonBlocking::each_waits(),
             alloc,
-            kept: Vec::new(alloc),
-            counts: Counts::none(alloc),
+            kept: Prepared::none(alloc),
         })
     }
 
@@ -114,14 +89,13 @@ impl GuestSide {
     pub(crate) fn is_over(&self, i: usize) -> bool
         ensures { result ≡ is_over (standing_of self.now) i }
     {
-        let overs = self.overs.as_slice();
-        if i < overs.len() { overs[i] } else { true }
+        self.data_over || self.host.sockets.is_over(i)
     }
 
-    fn wants_data(&self, i: usize, read: usize, most: u32) -> Option<Want>
-        ensures { result ≡ wants_data (standing_of self.now) i read most }
+    fn wants_data(&self, i: usize, most: u32) -> Option<Want>
+        ensures { result ≡ wants_data (standing_of self.now) i most }
     {
-        if !self.is_over(i) && (most != 0 && self.host.sockets.is_read(i, read)) {
+        if !self.is_over(i) && (most != 0 && !self.host.sockets.has_unread(i)) {
             Some(Want::Data(i))
         } else {
             None
@@ -134,7 +108,7 @@ impl GuestSide {
         match socket {
             None => self.wants_input(fd, most),
             Some(Socket::Fresh) | Some(Socket::Bound(_)) | Some(Socket::Listening(_)) => None,
-            Some(Socket::Connected { connection, at }) => self.wants_data(connection, at, most),
+            Some(Socket::Connected(i)) => self.wants_data(i, most),
         }
     }
 
@@ -160,7 +134,7 @@ impl GuestSide {
             } else {
                 None
             },
-            Some(Socket::Fresh) | Some(Socket::Bound(_)) | Some(Socket::Connected { .. }) => None,
+            Some(Socket::Fresh) | Some(Socket::Bound(_)) | Some(Socket::Connected(_)) => None,
             None => None,
         }
     }
@@ -216,28 +190,16 @@ impl GuestSide {
         self.wants_as(Syscall::of(call.nr), call)
     }
 
-    // The client has sent all.
-    fn end(&mut self, i: usize)
-        ensures others { self.new ≡ record self.old { overs = self.new.overs } }
-        ensures overs { self.new.overs.items ≡ slice_set self.old.overs.items i true }
-        ensures len { vec_len self.new.overs ≡ vec_len self.old.overs }
-        ensures capacity { vec_capacity self.new.overs ≡ vec_capacity self.old.overs }
-    {
-        if i < self.overs.as_slice().len() {
-            self.overs[i] = true;
-        }
-    }
-
     // One more client connects, for which there is memory.
     fn connect(&mut self, port: u32)
         requires { HasRoom (room_of self.old) (spec.Connect port ∷ []) }
         ensures standing { standing_of self.new ≡ arrive (standing_of self.old) (spec.Connect port) }
         ensures devices { self.new.host.devices ≡ self.old.host.devices }
         ensures room { (xs : List spec.Arrival) → HasRoom (room_of self.old) (spec.Connect port ∷ xs) → HasRoom (room_of self.new) xs }
+        ensures kept { IsKept (room_of self.old) → IsKept (room_of self.new) }
     {
-        let input = take_last(&mut self.kept);
-        self.host.sockets.connect(port, input, Vec::new(self.alloc));
-        add_going(&mut self.overs);
+        let inbox = self.kept.take_last();
+        self.host.sockets.connect(port, inbox);
     }
 
     // One more arrives, for which there is memory.
@@ -246,6 +208,7 @@ impl GuestSide {
         ensures standing { standing_of self.new ≡ arrive (standing_of self.old) (arrival_of arrival.now) }
         ensures disk { IsSameBut self.old.host.devices.files self.new.host.devices.files }
         ensures room { (xs : List spec.Arrival) → HasRoom (room_of self.old) (arrival_of arrival.now ∷ xs) → HasRoom (room_of self.new) xs }
+        ensures kept { IsKept (room_of self.old) → IsKept (room_of self.new) }
     {
         match arrival {
             Arrival::Input(bytes) => self.host.devices.files.take_in(bytes.as_slice()),
@@ -256,7 +219,7 @@ impl GuestSide {
                 .host
                 .sockets
                 .add_data(*client as usize, bytes.as_slice()),
-            Arrival::End(client) => self.end(*client as usize),
+            Arrival::End(client) => self.host.sockets.end(*client as usize),
             Arrival::Time(seconds, nanos) => self.host.devices.reach(*seconds, *nanos),
         }
     }
@@ -267,18 +230,43 @@ impl GuestSide {
         ensures standing { standing_of self.new ≡ arrive_all (standing_of self.old) (map arrival_of arrivals.now) }
         ensures disk { IsSameBut self.old.host.devices.files self.new.host.devices.files }
         ensures none { length arrivals.now ≡ 0 → self.new.host.sockets ≡ self.old.host.sockets }
+        ensures kept { IsKept (room_of self.old) → IsKept (room_of self.new) }
     {
         for arrival in arrivals {
             self.arrive(arrival);
         }
     }
 
-    /// The result of a call that takes in these, with the bytes that it hands out, or that waits in vain. What it does is said outside.
+    // What was said is let go: the console, and what was written to the connection of the call's socket.
+    fn let_go(&mut self, socket: Option<Socket>)
+        ensures standing { standing_of self.new ≡ standing_of self.old }
+        ensures console { self.new.host.devices.files.gone ≡ length self.new.host.devices.files.state.console }
+        ensures written { self.new.host.sockets.held.gone ≡ settled self.old.host.sockets socket }
+    {
+        self.host.devices.files.let_console_go();
+        settle(&mut self.host.sockets, socket);
+    }
+
+    // So, where it isn't kept.
+    fn let_go_unless(&mut self, keeps: bool, socket: Option<Socket>)
+        ensures standing { standing_of self.new ≡ standing_of self.old }
+        ensures kept { keeps ≡ true → self.new ≡ self.old }
+        ensures console { keeps ≡ false → self.new.host.devices.files.gone ≡ length self.new.host.devices.files.state.console }
+        ensures written { keeps ≡ false → self.new.host.sockets.held.gone ≡ settled self.old.host.sockets socket }
+    {
+        if !keeps {
+            self.let_go(socket);
+        }
+    }
+
+    /// The result of a call that takes in these, with the bytes that it hands out, or that waits in vain. What it does is said outside, and
+    /// let go unless what is said is kept.
     pub(crate) fn answer<O: Outside>(
         &mut self,
         call: &Call,
         arrivals: &[Arrival],
         vain: bool,
+        keeps: bool,
         out: &mut Bytes,
         outside: &mut O,
     ) -> i32
@@ -295,6 +283,8 @@ impl GuestSide {
         ensures stays { O.is_over outside.old → O.is_over outside.new }
         ensures capacity { out.new.capacity ≡ out.old.capacity }
         ensures few { length out.new.bytes ≤ most_out (request call.now) }
+        ensures kept { keeps ≡ true → IsKept (room_of self.old) → IsKept (room_of self.new) }
+        ensures gone { keeps ≡ false → self.new.host.devices.files.gone ≡ length self.new.host.devices.files.state.console }
     {
         let until = self.until(call);
         self.arrive_all(arrivals);
@@ -302,7 +292,21 @@ impl GuestSide {
         let mark = Mark::of(&self.host, call);
         let ret = self.answer_by(call, until, out);
         mark.say(outside, &self.host, call, ret);
+        self.let_go_unless(keeps, mark.socket);
         ret
+    }
+
+    // Memory for so many more clients.
+    fn reserve_clients(&mut self, count: usize) -> Result<(), AllocError>
+        ensures standing { standing_of self.new ≡ standing_of self.old }
+        ensures files { self.new.host.devices.files ≡ self.old.host.devices.files }
+        ensures sockets { self.new.host.sockets ≡ with_memory self.old.host.sockets self.new.host.sockets }
+        ensures places { OnOk result (HasPlaces self.new.host.sockets count) }
+        ensures kept { OnOk result (length (room_of self.new).kept ≡ count) }
+    {
+        self.host.sockets.reserve_clients(count)?;
+        self.kept = Prepared::make(self.alloc, count)?;
+        Ok(())
     }
 
     // Memory for these.
@@ -310,23 +314,15 @@ impl GuestSide {
         ensures standing { standing_of self.new ≡ standing_of self.old }
         ensures state { self.new.host.devices.files.state ≡ self.old.host.devices.files.state }
         ensures reserved { self.new.host.devices.files.reserved ≡ record self.old.host.devices.files.reserved { input = self.new.host.devices.files.reserved.input } }
+        ensures gone { self.new.host.devices.files.gone ≡ self.old.host.devices.files.gone }
         ensures sockets { self.new.host.sockets ≡ with_memory self.old.host.sockets self.new.host.sockets }
         ensures takes { OnOk result (HasRoom (room_of self.new) (map arrival_of arrivals.now)) }
     {
-        let connecting = connects(arrivals);
-        let clients = self.host.sockets.connections().len() + connecting;
         let bytes = input_bytes(arrivals)?;
         self.host.devices.files.reserve_input(bytes)?;
-        self.host.sockets.reserve_clients(connecting)?;
-        self.overs.reserve(connecting)?;
-        self.kept = self.counts.reserve(
-            self.alloc,
-            &mut self.host.sockets,
-            arrivals,
-            clients,
-            connecting,
-        )?;
-        Ok(())
+        self.reserve_clients(connects(arrivals))?;
+        forget_all(&mut self.host.sockets, arrivals);
+        promise_all(&mut self.host.sockets, &mut self.kept, arrivals)
     }
 
     // Memory for these, where there are some.
@@ -334,6 +330,7 @@ impl GuestSide {
         ensures standing { standing_of self.new ≡ standing_of self.old }
         ensures state { self.new.host.devices.files.state ≡ self.old.host.devices.files.state }
         ensures reserved { self.new.host.devices.files.reserved ≡ record self.old.host.devices.files.reserved { input = self.new.host.devices.files.reserved.input } }
+        ensures gone { self.new.host.devices.files.gone ≡ self.old.host.devices.files.gone }
         ensures sockets { self.new.host.sockets ≡ with_memory self.old.host.sockets self.new.host.sockets }
         ensures takes { OnOk result (CanTakeIn (room_of self.new) (map arrival_of arrivals.now)) }
     {
@@ -350,6 +347,7 @@ impl GuestSide {
         ensures takes { OnOk result (CanTakeIn (room_of self.new) (map arrival_of arrivals.now)) }
         ensures ready { OnOk result (CanAnswer self.new.host.devices.files (request call.now)) }
         ensures sends { OnOk result (CanSend self.new.host.sockets (request call.now)) }
+        ensures kept { IsKept (room_of self.old) → IsKept (room_of self.new) }
     {
         self.host.reserve(call)?;
         self.reserve_some(arrivals)

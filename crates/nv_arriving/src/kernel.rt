@@ -1,9 +1,9 @@
 // The kernels over what a script lists, and over what comes from outside.
-ghost use Rattle.std.specs.Prelude.{◌≡◌, ◌⊎◌, [], false, IsTrue, IfOk, map};
+ghost use Rattle.std.specs.Prelude.{◌≡◌, ◌⊎◌, ℕ, [], false, IsTrue, IfOk, map, slice_index};
 ghost use Rattle.nv_calls.specs.Logs.{calls_of, connections_of};
 ghost use Rattle.nv_script.specs.Scripts.{is_script};
 ghost use Rattle.nv_script.specs.Views.{setup_of};
-ghost use Rattle.nv_sockets.specs.Views.{link_of, written_of};
+ghost use Rattle.nv_sockets.specs.Views.{link_of, written_of, gone_of};
 ghost use Rattle.nv_arriving.specs.Scripted.{start_from, stage_from};
 ghost use Rattle.nv_arriving.specs.Arriving.{first_stage, Satisfied};
 ghost use Rattle.nv_arriving.specs.Standing.{StandsAt};
@@ -34,7 +34,7 @@ pub fn arriving<O: Outside + Telling + Send>(
     requires script { IsTrue (is_script (setup_of script.now)) }
     ensures { IfOk result (λ k. (k.log ≡ []) × (k.setup ≡ setup_of script.now) × (k.answers.came ≡ []) × (k.answers.begun ≡ outside) × (k.answers.outside ≡ outside) × (k.answers.late ≡ false)) }
 {
-    let guests = Guests::make(alloc, script, outside)?;
+    let guests = Guests::make(alloc, script, outside, false)?;
     Kernel::over(alloc, script, guests)
 }
 
@@ -52,6 +52,7 @@ pub fn into_outside<O: Outside + Telling + Send>(kernel: ArrivingKernel<O>) -> O
 pub fn connections(kernel: &ScriptedKernel) -> &[Connection]
     ensures links { map link_of result.now ≡ (stage_from kernel.now.setup kernel.now.log).here.state.net.links }
     ensures written { map written_of result.now ≡ connections_of (start_from kernel.now.setup) kernel.now.log }
+    ensures gone { (i : ℕ) → slice_index (map gone_of result.now) i ≡ 0 }
 {
     kernel.answers().connections()
 }

@@ -6,7 +6,8 @@ ghost use Rattle.nv_calls.specs.Numbers.{syscall_of};
 ghost use Rattle.nv_kernel.specs.Reserved.{CanAnswer, most_out};
 ghost use Rattle.nv_sockets.specs.Reserved.{CanSend};
 ghost use Rattle.nv_arriving.specs.Arriving.{unless_vain, with_end, counted, would_wait, later_as, later, nonblocking_by, noted, serve_by};
-ghost use Rattle.nv_arriving.specs.Views.{standing_of};
+ghost use Rattle.nv_arriving.specs.Reserved.{IsKept};
+ghost use Rattle.nv_arriving.specs.Views.{standing_of, room_of};
 
 use crate::flags::NONBLOCK;
 use crate::guests::GuestSide;
@@ -30,6 +31,8 @@ impl GuestSide {
         ensures none { result ≡ None → self.new ≡ self.old }
         ensures capacity { out.new.capacity ≡ out.old.capacity }
         ensures served { (standing_of self.new).state.own.served ≡ (standing_of self.old).state.own.served }
+        ensures sockets { self.new.host.sockets ≡ self.old.host.sockets }
+        ensures files { self.new.host.devices.files ≡ self.old.host.devices.files }
     {
         let args = call.args;
         let syscall = Syscall::of(call.nr);
@@ -52,6 +55,8 @@ impl GuestSide {
         ensures answer { later (standing_of self.old) (request call.now) until ≡ option_map (λ ret. record { here = standing_of self.new; ret = ret; payload = out.new.bytes }) result }
         ensures none { result ≡ None → self.new ≡ self.old }
         ensures capacity { out.new.capacity ≡ out.old.capacity }
+        ensures sockets { self.new.host.sockets ≡ self.old.host.sockets }
+        ensures files { self.new.host.devices.files ≡ self.old.host.devices.files }
     {
         if !self.polls || call.bad {
             return None;
@@ -89,6 +94,9 @@ impl GuestSide {
         ensures answer { serve_by (standing_of self.old) (request call.now) until ≡ record { here = standing_of self.new; ret = result; payload = out.new.bytes } }
         ensures capacity { out.new.capacity ≡ out.old.capacity }
         ensures few { length out.new.bytes ≤ most_out (request call.now) }
+        ensures held { self.new.host.sockets.held ≡ self.old.host.sockets.held }
+        ensures gone { self.new.host.devices.files.gone ≡ self.old.host.devices.files.gone }
+        ensures kept { IsKept (room_of self.old) → IsKept (room_of self.new) }
     {
         if let Some(ret) = self.answer_later(call, until, out) {
             return ret;
@@ -107,7 +115,7 @@ impl GuestSide {
     {
         self.input_over = true;
         self.clients_over = true;
-        self.overs.clear();
+        self.data_over = true;
     }
 
     /// Where a call waits in vain, nothing more comes of anything.

@@ -2,13 +2,11 @@
 //! Types: `Want`, `Until`, `NonBlocking`, `Polled`, `GuestSide`, `Guests` (what answers where input arrives), `ArrivingKernel`; `Listed`, where a script lists all that comes, and
 //! `ScriptedKernel` over it.
 //! Proved: it answers by its definition, though it takes from outside in the middle of a run; what comes later changes
-//! nothing of what was served; where nothing comes, it is the kernel of scripts.
-//! Above: the commands.
+//! nothing of what was served; where nothing comes, in runs without the later calls, it is the kernel of scripts.
 #![tactic(auto)]
 
 mod answering;
 mod arrivals;
-mod counting;
 mod flags;
 mod guests;
 mod kernel;
@@ -18,6 +16,7 @@ mod listed;
 mod nonblocking;
 mod polled;
 mod polling;
+mod prepared;
 mod reserving;
 mod saying;
 mod scripted;

@@ -91,11 +91,11 @@ fn append(list: &mut ArrayVec<u8, 816>, bytes: &[u8])
 
 #[tactic(auto, unfolding(crate::specs::Polling::events, crate::specs::Polling::readies, crate::specs::Polling::is_source, crate::specs::Polling::ends_poll, crate::specs::Polling::poll_waits, crate::specs::Polling::poll_of))]
 impl GuestSide {
-    fn connected_events(&self, i: usize, read: usize) -> u32
-        ensures { result ≡ connected_events (standing_of self.now) i read }
+    fn connected_events(&self, i: usize) -> u32
+        ensures { result ≡ connected_events (standing_of self.now) i }
     {
         let over = self.is_over(i);
-        let some = over || !self.host.sockets.is_read(i, read);
+        let some = over || self.host.sockets.has_unread(i);
         WRITABLE + when(some, READABLE) + when(over, SENT_ALL)
     }
 
@@ -105,7 +105,7 @@ impl GuestSide {
         match socket {
             Socket::Fresh | Socket::Bound(_) => WRITABLE + HUNG,
             Socket::Listening(port) => when(self.host.sockets.next_at(port).is_some(), READABLE),
-            Socket::Connected { connection, at } => self.connected_events(connection, at),
+            Socket::Connected(i) => self.connected_events(i),
         }
     }
 
@@ -163,7 +163,7 @@ impl GuestSide {
             None => self.host.devices.files.reads_input(polled.fd) && comes_in(polled, arrival),
             Some(Socket::Fresh) | Some(Socket::Bound(_)) => false,
             Some(Socket::Listening(port)) => calls_at(polled, port, arrival),
-            Some(Socket::Connected { connection, .. }) => comes_to(polled, connection, arrival),
+            Some(Socket::Connected(i)) => comes_to(polled, i, arrival),
         }
     }
 
@@ -189,9 +189,7 @@ impl GuestSide {
         match self.host.sockets.at(polled.fd) {
             None => !self.input_over && self.host.devices.files.reads_input(polled.fd),
             Some(Socket::Fresh) | Some(Socket::Bound(_)) | Some(Socket::Listening(_)) => false,
-            Some(Socket::Connected { connection, .. }) => {
-                !self.is_over(connection) && polled.asks(READABLE + SENT_ALL)
-            }
+            Some(Socket::Connected(i)) => !self.is_over(i) && polled.asks(READABLE + SENT_ALL),
         }
     }
 

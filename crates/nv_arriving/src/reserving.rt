@@ -1,16 +1,16 @@
 // How much memory arrivals need, and the taking of it.
-ghost use Rattle.std.specs.Prelude.{◌≡◌, ◌≤◌, ◌<◌, ◌+◌, ◌-◌, ℕ, suc, true, length, map, [], ◌∷◌, slice_index, OnOk, IfOk};
-ghost use Rattle.nv_sockets.specs.Coming.{HasInput};
+ghost use Rattle.std.specs.Prelude.{◌≡◌, ◌≤◌, ◌<◌, ◌+◌, ◌-◌, ℕ, suc, length, map, [], ◌∷◌, slice_index, OnOk, IfOk};
+ghost use Rattle.nv_sockets.specs.Coming.{came_over, HasInput};
 ghost use Rattle.nv_arrivals.specs.Views.{view as arrival_of};
-ghost use Rattle.nv_arriving.specs.Reserved.{input_bytes, connects, sends};
-ghost use Rattle.nv_arriving.specs.Views.{capacity_of};
+ghost use Rattle.nv_arriving.specs.Reserved.{input_bytes, connects, data_of};
 
+use crate::prepared::Prepared;
 use nv_arrivals::Arrival;
 use nv_sockets::Sockets;
-use std::alloc::{AllocError, Global};
+use std::alloc::AllocError;
 
-/// Together, where memory can be of that size.
-pub(crate) fn together(count: usize, more: usize) -> Result<usize, AllocError>
+// Together, where memory can be of that size.
+fn together(count: usize, more: usize) -> Result<usize, AllocError>
     ensures { IfOk result (λ sum. sum ≡ count + more) }
 {
     match count.checked_add(more) {
@@ -64,60 +64,89 @@ pub(crate) fn connects(arrivals: &[Arrival]) -> usize
     count
 }
 
-/// Memory of the sizes that the last so many are, the last first.
-pub(crate) fn keep(
-    alloc: Global,
-    counts: &[usize],
-    clients: usize,
-) -> Result<Vec<Vec<u8>>, AllocError>
-    requires { clients ≤ length counts.now }
-    ensures len { IfOk result (λ made. length made.items ≡ clients) }
-    ensures sizes { IfOk result (λ made. (p : ℕ) → p < clients → slice_index counts.now (length counts.now - suc p) ≤ slice_index (map capacity_of made.items) p) }
-{
-    let mut made = Vec::new(alloc);
-    for place in 0..clients {
-        let count = counts[counts.len() - 1 - place];
-        made.push(Vec::with_capacity(alloc, count)?)?;
-    }
-    Ok(made)
-}
-
-// Memory for as much of one's client as its count says.
-fn reserve_one(sockets: &mut Sockets, arrival: &Arrival, counts: &[usize]) -> Result<(), AllocError>
-    ensures others { sockets.new ≡ record sockets.old { inputs = sockets.new.inputs } }
-    ensures keeps { (j n : ℕ) → HasInput sockets.old j n → HasInput sockets.new j n }
-    ensures ok { OnOk result ((j : ℕ) → j < length counts.now → sends j (arrival_of arrival.now ∷ []) ≡ true → HasInput sockets.new j (slice_index counts.now j)) }
+fn forget(sockets: &mut Sockets, arrival: &Arrival)
+    ensures { sockets.new ≡ record sockets.old { promised = sockets.new.promised } }
 {
     match arrival {
-        Arrival::Data(client, _) => reserve_count(sockets, *client as usize, counts),
-        Arrival::Input(_) | Arrival::InputEnd | Arrival::ClientsEnd => Ok(()),
-        Arrival::Connect(_) | Arrival::End(_) | Arrival::Time(_, _) => Ok(()),
+        Arrival::Data(client, _) => sockets.forget(*client as usize),
+        Arrival::Input(_) | Arrival::InputEnd | Arrival::ClientsEnd => {}
+        Arrival::Connect(_) | Arrival::End(_) | Arrival::Time(_, _) => {}
     }
 }
 
-fn reserve_count(sockets: &mut Sockets, i: usize, counts: &[usize]) -> Result<(), AllocError>
-    ensures others { sockets.new ≡ record sockets.old { inputs = sockets.new.inputs } }
-    ensures keeps { (j n : ℕ) → HasInput sockets.old j n → HasInput sockets.new j n }
-    ensures ok { OnOk result (i < length counts.now → HasInput sockets.new i (slice_index counts.now i)) }
+/// Of the clients that these come from memory is kept for nothing any more: what was taken for a call that wasn't served doesn't add up.
+pub(crate) fn forget_all(sockets: &mut Sockets, arrivals: &[Arrival])
+    ensures { sockets.new ≡ record sockets.old { promised = sockets.new.promised } }
 {
-    if i < counts.len() {
-        sockets.reserve_data(i, counts[i])
+    for arrival in arrivals {
+        forget(sockets, arrival);
+    }
+}
+
+// Memory for these bytes of a client that will connect, which so many do before it.
+fn promise_next(kept: &mut Prepared, before: usize, bytes: &[u8]) -> Result<(), AllocError>
+    ensures len { length kept.new ≡ length kept.old }
+    ensures ok { OnOk result ((p : ℕ) → p < length kept.old → came_over before bytes.now (length kept.old - suc p) + slice_index kept.old p ≤ slice_index kept.new p) }
+{
+    let count = kept.len();
+    if before < count {
+        kept.promise(count - 1 - before, bytes.len())
     } else {
         Ok(())
     }
 }
 
-/// Memory for as much of each client that sends as its count says.
-pub(crate) fn reserve_data(
+// Memory for these bytes of a client, which is there or will connect.
+fn promise_client(
     sockets: &mut Sockets,
-    arrivals: &[Arrival],
-    counts: &[usize],
+    kept: &mut Prepared,
+    i: usize,
+    bytes: &[u8],
 ) -> Result<(), AllocError>
-    ensures others { sockets.new ≡ record sockets.old { inputs = sockets.new.inputs } }
-    ensures ok { OnOk result ((j : ℕ) → j < length counts.now → sends j (map arrival_of arrivals.now) ≡ true → HasInput sockets.new j (slice_index counts.now j)) }
+    ensures others { sockets.new ≡ record sockets.old { promised = sockets.new.promised } }
+    ensures len { length kept.new ≡ length kept.old }
+    ensures data { OnOk result ((j n : ℕ) → HasInput sockets.old j n → HasInput sockets.new j (came_over i bytes.now j + n)) }
+    ensures kept { OnOk result ((p : ℕ) → p < length kept.old → came_over i bytes.now (length sockets.old.net.links + length kept.old - suc p) + slice_index kept.old p ≤ slice_index kept.new p) }
+{
+    let there = sockets.clients();
+    if i < there {
+        sockets.promise(i, bytes.len())
+    } else {
+        promise_next(kept, i - there, bytes)
+    }
+}
+
+fn promise(sockets: &mut Sockets, kept: &mut Prepared, arrival: &Arrival) -> Result<(), AllocError>
+    ensures others { sockets.new ≡ record sockets.old { promised = sockets.new.promised } }
+    ensures len { length kept.new ≡ length kept.old }
+    ensures data { OnOk result ((j n : ℕ) → HasInput sockets.old j n → HasInput sockets.new j (data_of j (arrival_of arrival.now ∷ []) + n)) }
+    ensures kept { OnOk result ((p : ℕ) → p < length kept.old → data_of (length sockets.old.net.links + length kept.old - suc p) (arrival_of arrival.now ∷ []) + slice_index kept.old p ≤ slice_index kept.new p) }
+{
+    match arrival {
+        Arrival::Data(client, bytes) => promise_client(
+            sockets,
+            kept,
+            *client as usize,
+            bytes.as_slice(),
+        ),
+        Arrival::Input(_) | Arrival::InputEnd | Arrival::ClientsEnd => Ok(()),
+        Arrival::Connect(_) | Arrival::End(_) | Arrival::Time(_, _) => Ok(()),
+    }
+}
+
+/// Memory for what comes from clients, of those that are there and of those that will connect.
+pub(crate) fn promise_all(
+    sockets: &mut Sockets,
+    kept: &mut Prepared,
+    arrivals: &[Arrival],
+) -> Result<(), AllocError>
+    ensures others { sockets.new ≡ record sockets.old { promised = sockets.new.promised } }
+    ensures len { length kept.new ≡ length kept.old }
+    ensures data { OnOk result ((j : ℕ) → HasInput sockets.new j (data_of j (map arrival_of arrivals.now))) }
+    ensures kept { OnOk result ((p : ℕ) → p < length kept.new → data_of (length sockets.new.net.links + length kept.new - suc p) (map arrival_of arrivals.now) ≤ slice_index kept.new p) }
 {
     for arrival in arrivals {
-        reserve_one(sockets, arrival, counts)?;
+        promise(sockets, kept, arrival)?;
     }
     Ok(())
 }

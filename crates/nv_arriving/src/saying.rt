@@ -1,12 +1,11 @@
 // What a call says outside once it is served.
-ghost use Rattle.std.specs.Prelude.{◌≡◌, length, map, drop};
+ghost use Rattle.std.specs.Prelude.{◌≡◌, ◌+◌, length, map, drop};
 ghost use Rattle.nv_calls.specs.Calls.{request};
 ghost use Rattle.nv_arrivals.specs.Doings.{Says, Printed};
 ghost use Rattle.nv_sockets.specs.Kernel.{state_of};
-ghost use Rattle.nv_sockets.specs.Serving.{State};
-ghost use Rattle.nv_sockets.specs.Sockets.{link_output};
+ghost use Rattle.nv_sockets.specs.declared.host.Host as declared;
 ghost use Rattle.nv_arriving.specs.Doings.{of_bytes, socket_by, accepted_as, accepted, written, sent, closed, said};
-ghost use Rattle.nv_arriving.specs.Marks.{mark_of};
+ghost use Rattle.nv_arriving.specs.Marks.{gone_of, IsMark};
 ghost use Rattle.nv_arriving.specs.Telling.{Adds};
 
 use nv_arrivals::{Outside, Said};
@@ -16,11 +15,11 @@ use nv_sockets::{Host, Socket, Sockets};
 /// What a call may change that is said outside, as it stands.
 #[derive(Clone, Copy)]
 pub struct Mark {
-    /// How many bytes are on the console.
+    /// How many bytes of the console are there.
     console: usize,
     /// The socket of the call's first argument.
-    socket: Option<Socket>,
-    /// How many bytes were written to its connection.
+    pub(crate) socket: Option<Socket>,
+    /// How many of the bytes are there that were written to its connection.
     written: usize,
 }
 
@@ -35,23 +34,13 @@ fn behind(bytes: &[u8], count: usize) -> &[u8]
     }
 }
 
-fn output(sockets: &Sockets, i: usize) -> &[u8]
-    ensures { result.now ≡ link_output sockets.now.net i }
-{
-    let connections = sockets.connections();
-    if i < connections.len() {
-        connections[i].output.as_slice()
-    } else {
-        &[]
-    }
-}
-
-// What was written to the connection of a socket.
+// What is there of what was written to the connection of a socket.
 fn written(sockets: &Sockets, socket: Option<Socket>) -> &[u8]
-    ensures { result.now ≡ written sockets.now.net socket }
+    ensures is { result.now ≡ drop (gone_of sockets.now.held socket) (written sockets.now.net socket) }
+    ensures inside { gone_of sockets.now.held socket + length result.now ≡ length (written sockets.now.net socket) }
 {
     match socket {
-        Some(Socket::Connected { connection, .. }) => output(sockets, connection),
+        Some(Socket::Connected(i)) => sockets.written_to(i),
         Some(Socket::Fresh) | Some(Socket::Bound(_)) | Some(Socket::Listening(_)) => &[],
         None => &[],
     }
@@ -72,7 +61,7 @@ fn say_accepted_as<O: Outside>(outside: &mut O, socket: Option<Socket>)
     ensures stays { O.is_over outside.old → O.is_over outside.new }
 {
     match socket {
-        Some(Socket::Connected { connection, .. }) => outside.say(&Said::Accepted(connection)),
+        Some(Socket::Connected(i)) => outside.say(&Said::Accepted(i)),
         Some(Socket::Fresh) | Some(Socket::Bound(_)) | Some(Socket::Listening(_)) => {}
         None => {}
     }
@@ -93,8 +82,8 @@ fn say_sent<O: Outside>(outside: &mut O, socket: Option<Socket>, bytes: &[u8])
     ensures stays { O.is_over outside.old → O.is_over outside.new }
 {
     match socket {
-        Some(Socket::Connected { connection, .. }) => if !bytes.is_empty() {
-            outside.say(&Said::Sent(connection, bytes));
+        Some(Socket::Connected(i)) => if !bytes.is_empty() {
+            outside.say(&Said::Sent(i, bytes));
         },
         Some(Socket::Fresh) | Some(Socket::Bound(_)) | Some(Socket::Listening(_)) => {}
         None => {}
@@ -106,9 +95,7 @@ fn say_closed<O: Outside>(outside: &mut O, before: Option<Socket>, now: Option<S
     ensures stays { O.is_over outside.old → O.is_over outside.new }
 {
     match (before, now) {
-        (Some(Socket::Connected { connection, .. }), None) => {
-            outside.say(&Said::Closed(connection));
-        }
+        (Some(Socket::Connected(i)), None) => outside.say(&Said::Closed(i)),
         _ => {}
     }
 }
@@ -125,7 +112,7 @@ fn say_printed<O: Outside>(outside: &mut O, bytes: &[u8])
 impl Mark {
     /// As it stands before the call.
     pub(crate) fn of(host: &Host, call: &Call) -> Mark
-        ensures { result ≡ mark_of (state_of host.now) (request call.now) }
+        ensures { IsMark result host.now (request call.now) }
     {
         let socket = host.sockets.at(call.args[0]);
         Mark {
@@ -135,9 +122,10 @@ impl Mark {
         }
     }
 
-    /// Says what the call did that had this result and left this.
+    /// Says what the call did that had this result and left this, where nothing was let go meanwhile.
     pub(crate) fn say<O: Outside>(&self, outside: &mut O, host: &Host, call: &Call, ret: i32)
-        ensures says { (before : State) → self.now ≡ mark_of before (request call.now) → Adds O.did outside.old outside.new (map Says (said before (request call.now) ret (state_of host.now))) }
+        ensures says { (before : declared.Host) → IsMark self.now before (request call.now) → host.now.sockets.held ≡ before.sockets.held → host.now.devices.files.gone ≡ before.devices.files.gone
+            → Adds O.did outside.old outside.new (map Says (said (state_of before) (request call.now) ret (state_of host.now))) }
         ensures stays { O.is_over outside.old → O.is_over outside.new }
     {
         let sockets = &host.sockets;

@@ -1,6 +1,7 @@
 // What answers over a script that lists all that comes.
-ghost use Rattle.std.specs.Prelude.{◌≡◌, map};
-ghost use Rattle.nv_sockets.specs.Views.{link_of};
+ghost use Rattle.std.specs.Prelude.{◌≡◌, ℕ, map, slice_index};
+ghost use Rattle.nv_sockets.specs.Views.{link_of, gone_of};
+ghost use Rattle.nv_arriving.specs.Reserved.{IsKept};
 
 use crate::answering::Guests;
 use crate::listed::Nothing;
@@ -20,8 +21,10 @@ pub struct Listed {
 
 impl Listed {
     /// The connections, those that the script states first, each with what was written to it.
-    pub fn connections(&self) -> &[Connection]
-        ensures { map link_of result.now ≡ self.now.guests.stage.here.state.net.links }
+    pub(crate) fn connections(&self) -> &[Connection]
+        requires { IsKept self.now.guests.room }
+        ensures links { map link_of result.now ≡ self.now.guests.stage.here.state.net.links }
+        ensures gone { (i : ℕ) → slice_index (map gone_of result.now) i ≡ 0 }
     {
         self.guests.connections()
     }
@@ -72,10 +75,6 @@ impl Answers for Listed {
     fn is_over(&self) -> bool {
         self.guests.is_over()
     }
-
-    fn console(&self) -> &[u8] {
-        self.guests.console()
-    }
 }
 
 impl FromScript for Listed {
@@ -89,6 +88,10 @@ impl KeepsAll for Listed {
     ghost use Rattle.std.specs.Prelude.{refl};
 
     ghost all_kept = { refl };
+
+    fn console(&self) -> &[u8] {
+        self.guests.console()
+    }
 }
 
 impl Foretold for Listed {

@@ -166,7 +166,9 @@ impl GuestSide {
 
     /// clock_nanosleep(2): where nothing more comes, the time goes by.
     pub(crate) fn sleep(&mut self, until: Until) -> i32
-        ensures { slept (standing_of self.old) until ≡ (result, standing_of self.new) }
+        ensures answer { slept (standing_of self.old) until ≡ (result, standing_of self.new) }
+        ensures sockets { self.new.host.sockets ≡ self.old.host.sockets }
+        ensures files { self.new.host.devices.files ≡ self.old.host.devices.files }
     {
         match until {
             Until::At(seconds, nanos) => {

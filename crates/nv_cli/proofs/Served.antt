@@ -4,7 +4,7 @@ use Rattle.std.specs.List.{All, list_all}
 use Rattle.std.specs.Result.{is_ok}
 use Rattle.std.proofs.lemmas.Bool.{and_parts}
 use Rattle.nv_arrivals.specs.Arrivals.{Arrival, is_arrival, BringsBytes}
-use Rattle.nv_arrivals.specs.Order.{are_orderly, are_arrivals}
+use Rattle.nv_arrivals.specs.Order.{most_clients, are_orderly, are_arrivals}
 use Rattle.nv_arrivals.specs.Doings.{Doing, Takes, takings, sayings, handings, exchanges}
 use Rattle.nv_arriving.specs.Arriving.{first_stage, stage_after, start_of_arrivals, Satisfied}
 use Rattle.nv_arriving.specs.Doings.{doings}
@@ -63,12 +63,12 @@ bare setup none = ap (λ arrivals. Ok (with_arrivals setup arrivals)) none
 
 -- what came may come, by the reads
 abbrev MayCome : List Arrival → Type 0
-MayCome arrivals = (list_all is_arrival arrivals ≡ true) × (are_orderly arrivals ≡ true)
+MayCome arrivals = (list_all is_arrival arrivals ≡ true) × (are_orderly (most_clients true) arrivals ≡ true)
 
 may_come : (clients : Bool) (before now : Option (List (List ℕ))) (faults later_faults : ℕ) (stopped : Option Stopped) (line held : List ℕ) (arrivals : List Arrival) (handed : List ℕ)
     → CameBy clients before now faults later_faults stopped line held arrivals handed → MayCome arrivals
 unfolding are_arrivals
-may_come false before now faults later_faults stopped line held arrivals handed came = and_parts (list_all is_arrival arrivals) (are_orderly arrivals) came.1.may_come
+may_come false before now faults later_faults stopped line held arrivals handed came = and_parts (list_all is_arrival arrivals) (are_orderly (most_clients true) arrivals) came.1.may_come
 may_come true before now faults later_faults stopped line held arrivals handed came = (came.3.limits, ap is_ok came.3.orderly)
 
 -- the script with what was done, where nothing came in it
@@ -80,7 +80,7 @@ with_more setup done came none took =
 reads_on : (head : List ℕ) (setup : Setup) (done : List Doing) (came : List Arrival) → IsTranscript head setup → setup.arrivals ≡ [] → takings done ≡ came → MayCome (takings done)
     → are_hands (setup.hands ++ handings done) ≡ true → All BringsBytes came → script_of (head ++ notes_on done) ≡ Ok (with_hands (with_arrivals setup came) (handings done))
 reads_on head setup done came begins none took may planned bytes =
-    (noted_on done head setup begins may.0 (subst (λ (came : List Arrival). All BringsBytes came) (sym took) bytes) (ap (λ (old : List Arrival). are_orderly (old ++ takings done)) none ∙ may.1) planned).says
+    (noted_on done head setup begins may.0 (subst (λ (came : List Arrival). All BringsBytes came) (sym took) bytes) (ap (λ (old : List Arrival). are_orderly (most_clients true) (old ++ takings done)) none ∙ may.1) planned).says
     ∙ ap (λ (s : Setup). Ok s) (with_more setup done came none took)
 
 stops : {I O T : Type 0} (run : LiveRun I O T) → stop_of_run run ≡ stop_with (source_stop run) (put_of (output_of run))

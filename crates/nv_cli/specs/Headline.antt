@@ -73,14 +73,14 @@ use Rattle.nv_fs.specs.Names.{Resolved, is_cwd, is_open_at, is_absolute, name_in
 use Rattle.nv_fs.specs.Opened.{has_flag, opened, open_file, truncated, free_file, with_file, create, open_at_descriptor, exclusive_error, open_unless, open_resolved, open_at_of, unlinked, unlink_file, unlink_resolved, unlink_at_of}
 use Rattle.nv_fs.specs.Polls.{READABLE, WRITABLE, FAILED, HUNG, when, input_events, reader_events, writer_events, target_events, file_events, access_of, flags_of as nv_fs_flags_of, file_flags}
 use Rattle.nv_fs.specs.Seeks.{bytes_of, plus_signed, base_of, seek_to, seek_from, seek_target, seek_open, seek_of}
-use Rattle.nv_fs.specs.Starts.{first_descriptors, first_opens, first_state}
+use Rattle.nv_fs.specs.Starts.{first_descriptors, first_opens, console_limit, first_state}
 use Rattle.nv_fs.specs.States.{Inode, FileState, Answer, answer, only, numbered, open_of, is_open, one_way, is_target, opens_to, has_open, is_numbered, is_shared, file_at, is_kept, is_pipe, least_free, with_at, free_open, install, moved_to}
-use Rattle.nv_fs.specs.Stored.{write_console, with_content, start_of, write_at, write_pipe, write_target, write_open, write_of}
+use Rattle.nv_fs.specs.Stored.{MOST_WRITTEN, write_console, with_content, start_of, write_at, write_pipe, write_target, write_open, write_of}
 use Rattle.nv_fs.specs.Told.{told_by, told_of, opened_as}
 use Rattle.nv_fs.specs.Waits.{is_input, reads_input, waits_on_input}
 use Rattle.nv_arrivals.specs.Arrivals.{Arrival, is_sized, is_port, is_nanos, is_arrival, AreBytes, BringsBytes}
 use Rattle.nv_arrivals.specs.Doings.{Said, Doing, takings, sayings, handings, exchanges}
-use Rattle.nv_arrivals.specs.Order.{Came, nothing_came, input_going, input_ended, clients_ended, with_client, sending, client_ended, admitted, onward, after, are_orderly, are_arrivals}
+use Rattle.nv_arrivals.specs.Order.{most_clients, Came, nothing_came, input_going, input_ended, clients_ended, with_client, is_going, not_going, sending, without as nv_arrivals_without, client_ended, admitted, onward, after, are_orderly, are_arrivals}
 use Rattle.nv_arrivals.specs.Pieces.{cut_after, pieces, input_of}
 use Rattle.nv_arrivals.specs.Reading.{words as nv_arrivals_words, word_of, is_word, is_timeless, is_timeless_word, sized, bytes_of as nv_arrivals_bytes_of, line_arrival, input_with, connect_with, data_with, data_parts, data_in, end_with, end_of, time_with, time_parts, time_in, arrival_by, arrival_with, arrival_of}
 use Rattle.nv_arrivals.specs.Writing.{is_printable, front, is_line, input_text, line_text}
@@ -99,9 +99,9 @@ use Rattle.nv_live.specs.Taking.{faults_by_stop, is_plain_stop, Took}
 use Rattle.nv_live.specs.Transcript.{hand_text, note_of, notes_on}
 use Rattle.nv_kernel.specs.Crew.{Crew, first_crew, may_clone, clone_as, clone_of, exit_of, with_none_live}
 use Rattle.nv_kernel.specs.Serving.{State, Served, replied, always, of_files, of_crew, counted, request_arg, second, time_bytes, time_of, reached, next_random, high_byte, randoms, random_after, randomly, control, unless_many, clock, answered, unless_bad as nv_kernel_unless_bad, serve, named_inode, first_state as nv_kernel_first_state}
-use Rattle.nv_sockets.specs.Coming.{connected, with_data}
-use Rattle.nv_sockets.specs.Serving.{of_open, unless_many as nv_sockets_unless_many, answered as nv_sockets_answered, unless_bad as nv_sockets_unless_bad, or_own, State as nv_sockets_State, Served as nv_sockets_Served, beside, joined, serve as nv_sockets_serve, link_written, link_from, port_from, first_net, first_state as nv_sockets_first_state}
-use Rattle.nv_sockets.specs.Sockets.{Link, Net, Answer as nv_sockets_Answer, answer as nv_sockets_answer, only as nv_sockets_only, socket_count, no_sockets, socket_at, fault_of, on_socket, with_socket, free_place, socket_opened, are_flags, is_stream, is_tcp, made_at, socket_of, port_by, port_in, is_size, has_port, is_used, bind_to, bind_socket, bind_of, listen_socket, listen_of, waits_at_port, next_at, with_accepted, accept_next, accept_socket, accept_flagged, accept_of, link_at, input_of as nv_sockets_input_of, link_output, read_link, read_socket, with_output, write_link, write_socket, close_socket}
+use Rattle.nv_sockets.specs.Coming.{connected, with_data, ended}
+use Rattle.nv_sockets.specs.Serving.{of_open, unless_many as nv_sockets_unless_many, answered as nv_sockets_answered, unless_bad as nv_sockets_unless_bad, or_own, State as nv_sockets_State, Served as nv_sockets_Served, beside, joined, serve as nv_sockets_serve, link_written, link_from, waiting_from, first_net, first_state as nv_sockets_first_state}
+use Rattle.nv_sockets.specs.Sockets.{Inbox, Link, Net, Answer as nv_sockets_Answer, answer as nv_sockets_answer, only as nv_sockets_only, socket_count, output_limit, no_sockets, socket_at, fault_of, on_socket, with_socket, free_place, socket_opened, are_flags, is_stream, is_tcp, made_at, socket_of, port_by, port_in, is_size, has_port, is_used, bind_to, bind_socket, bind_of, listen_socket, listen_of, first_at, next_at, without as nv_sockets_without, with_accepted, accept_next, accept_socket, accept_flagged, accept_of, link_at, unread_in, unread_of, over_in, has_unread, is_over, is_going as nv_sockets_is_going, link_output, with_link, with_inbox, read_link, read_socket, with_output, write_link, write_socket, closed_link, close_socket}
 use Rattle.nv_sockets.specs.Texts.{connection_count_text, connection_text, connection_texts, connections_text}
 use Rattle.nv_arriving.specs.Arrivals.{ends, any_ends, until, taken_for, in_vain}
 use Rattle.nv_arriving.specs.Arriving.{wants_input, wants_data, read_wants, wants_client, accept_wants, wants_on, wants_as, wants, wait_of, with_input as nv_arriving_with_input, with_net, arrive, arrive_all, with_end, unless_vain, Reached, counted as nv_arriving_counted, reached_by, polled, would_wait, later_as, later, nonblocking_by, noted, note, own_answer as nv_arriving_own_answer, or_own as nv_arriving_or_own, serve_by, Stage, taken, ready_for, answer_next, serve_next, stage_after, Satisfied, reply_by, start_at, first_standing, first_stage, start_of_arrivals}
@@ -111,7 +111,7 @@ use Rattle.nv_arriving.specs.Kernel.{after as nv_arriving_after}
 use Rattle.nv_arriving.specs.NonBlocking.{each_waits, is_nonblocking_socket, with_socket as nv_arriving_with_socket}
 use Rattle.nv_arriving.specs.Polling.{polled_at, polled_from, count_of as nv_arriving_count_of, polled_by, is_passed as nv_arriving_is_passed, asks as nv_arriving_asks, SENT_ALL, NOT_OPEN, connected_events, socket_events, events_by, events, told, told_of as nv_arriving_told_of, ready_in, ready, comes_to, calls_at, comes_in, readies_by, readies, is_source_by, is_source, has_source, is_at_end, ends_poll, is_bad, is_refused, poll_waits, past_answer, idle_answer, poll_ret, told_in, told_bytes, with_bytes as nv_arriving_with_bytes, poll_of}
 use Rattle.nv_arriving.specs.Scripted.{start_from, stage_from}
-use Rattle.nv_arriving.specs.Standings.{Standing, is_over, with_state as nv_arriving_with_state}
+use Rattle.nv_arriving.specs.Standings.{Standing, is_over as nv_arriving_is_over, with_state as nv_arriving_with_state}
 use Rattle.nv_arriving.specs.Timing.{word, time_in as nv_arriving_time_in, now, at, after_time, after as nv_arriving_Timing_after, poll_until, is_clock, base, sleep_until, until_as, until_of, is_past, reaches, is_reached, sleep_wants, with_time, slept}
 use Rattle.nv_bpf.specs.Actions.{actions, action_of}
 use Rattle.nv_bpf.specs.Faults.{filter_text}
@@ -127,7 +127,7 @@ use Rattle.nv_replay.specs.Hands.{has, is_handed, unless_handed, next_or_hand, l
 use Rattle.nv_replay.specs.Lead.{Leader, is_cut, is_memory, cut_of, logged, led, unless_ended, next_call}
 use Rattle.nv_replay.specs.Monitor.{Part, Run, numbers, part, begun, with_span, led_line, after_lead, tracked_by, leads_on, turn_by, turn_of, turn_in, turn, told_standing, lines_of, account_of, sequence}
 use Rattle.nv_replay.specs.Permits.{Permit, given, failed, passed, took, permit}
-use Rattle.nv_replay.specs.Sequence.{Account, is_going, cuts_of}
+use Rattle.nv_replay.specs.Sequence.{Account, is_going as nv_replay_is_going, cuts_of}
 use Rattle.nv_replay.specs.Settling.{stage}
 use Rattle.nv_replay.specs.Survivors.{alone, IsSurvivor, HasNoClone, SurvivorsAgree}
 use Rattle.nv_replay.specs.Taking.{is_alike, is_through, is_writing, fits, all_written, result_by, taken as nv_replay_taken}
@@ -141,7 +141,7 @@ use Rattle.nv_asm.specs.Assembled.{Whole, text_base, data_base, base as nv_asm_b
 use Rattle.nv_asm.specs.Faults.{asm_word, asm_text}
 use Rattle.nv_asm.specs.Forms.{same_form, has_form, flags as nv_asm_flags, each_order, kinds}
 use Rattle.nv_asm.specs.Numbers.{registers, numbered_register, register_named, decimal, hexadecimal, magnitude, signed, literal, is_number, within, number, number_of_12_bits, number_of_32_bits, number_of_8_bits}
-use Rattle.nv_asm.specs.Places.{here_by, here, filled, among_data, in_section, or_blank, code_size, size, begin, past, Placed, stated, place, after as nv_asm_after, line_parts, placed_parts, placed_line, placed, nothing_reached, ended, marked}
+use Rattle.nv_asm.specs.Places.{here_by, here, filled, among_data, in_section, or_blank, code_size, size, begin, past, Placed, stated, place, after as nv_asm_after, line_parts, placed_parts, placed_line, placed, nothing_reached, ended as nv_asm_ended, marked}
 use Rattle.nv_asm.specs.Statements.{Word, Code, Statement, insn, single, with_number, upper_of, lower_of, loading, ◌>>=◌, name, is_not_open, closed as nv_asm_closed, enclosed, base_register, displacement, sole_register, registers_of, immediate_of, shift_of, load_of, store_of, reserved_statement, atomic_of, branch_of, jump_and_link_of, upper_number_of, load_number_of, load_address_of, move_of, jump_of, zeros, zeros_of, entry_statement, of_none, of_one, of_two, of_three, formed, is_within, number_or_zero, is_byte, byte_of, bytes_within, bytes_of as nv_asm_bytes_of, is_item, is_word as nv_asm_is_word, word_of as nv_asm_word_of, words_within, words_of, kind_read, stated as nv_asm_stated, statement_begun, statement}
 use Rattle.nv_asm.specs.Strings.{escape, at_end, escaped_mark, mark, quoted, string, next, comment_place}
 use Rattle.nv_bpf_asm.specs.Assembled.{is_not_comment, line_parts as nv_bpf_asm_line_parts, word_count, count, labels, Find, is_earlier as nv_bpf_asm_is_earlier, is_twice as nv_bpf_asm_is_twice, way, near_way, jump_by, jump_op, branch_by, branch_op, op_of as nv_bpf_asm_op_of, op_after, some_op, op_of_word, op_of_parts, op_of_line, put_first as nv_bpf_asm_put_first, with_line as nv_bpf_asm_with_line, ops_of as nv_bpf_asm_ops_of, of_filter, filter_with as nv_bpf_asm_filter_with, assembled as nv_bpf_asm_assembled}

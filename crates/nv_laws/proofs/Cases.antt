@@ -77,7 +77,7 @@ module _ (P : FileState → Type 0) (s : FileState) (fd : ℕ) (same : P s) wher
 
     write_target_cases : (o : ℕ × OpenFile) (t : Target) (bytes : List ℕ) → open_of s fd ≡ Some o → o.1.target ≡ t → P (write_target s o.0 o.1 t bytes).state
     write_target_cases o Input bytes e t = same
-    write_target_cases o Console bytes e t = console_cases 16777216 bytes
+    write_target_cases o Console bytes e t = console_cases s.limit bytes
     write_target_cases o (File i) bytes e t = at_cases o i 1048576 (start_of s o.1 i) bytes e t
     write_target_cases o (Reader k) bytes e t = same
     write_target_cases o (Writer k) bytes e t = into_cases o k 4096 bytes e t

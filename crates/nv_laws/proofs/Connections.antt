@@ -1,5 +1,5 @@
 -- What calls send, joined for each connection, is what was written to it.
-use Rattle.std.proofs.Common.{◌≡◌, ◌≢◌, ◌∙◌, sym, ap, subst, refl, ℕ, ℤ, ◌<◌, ◌≤◌, ◌-◌, zero, suc, Bool, true, false, cond, ◌==◌, nat_le, nat_lt, List, [], ◌∷◌, ◌++◌, length, take, map, Option, Some, None, append_assoc, append-nil, ⊎_elim, arith}
+use Rattle.std.proofs.Common.{◌≡◌, ◌≢◌, ◌∙◌, sym, ap, subst, refl, ℕ, ℤ, ◌<◌, ◌≤◌, zero, suc, Bool, true, false, cond, not, ◌==◌, nat_le, nat_lt, List, [], ◌∷◌, ◌++◌, length, take, map, Option, Some, None, append_assoc, append-nil, ⊎_elim, arith}
 use Rattle.std.specs.Prelude.{slice_index_or, slice_set, option_map, IfSome}
 use Rattle.std.proofs.lemmas.Bool.{cases_eq, cases_lt}
 use Rattle.std.proofs.lemmas.Bool.Decides.{nat_tests}
@@ -14,7 +14,7 @@ use Rattle.nv_script.specs.Scripts.{Setup, Incoming}
 use Rattle.nv_kernel.specs.Serving.{request_arg}
 use Rattle.nv_sockets.specs.declared.socket.Socket.{Socket}
 use Rattle.nv_sockets.specs.declared.socket.Socket.TheVariants.{Fresh, Bound, Listening, Connected}
-use Rattle.nv_sockets.specs.Sockets.{Link, Net, Answer, only, socket_at, on_socket, is_tcp, made_at, socket_of, is_size, port_in, is_used, bind_to, bind_socket, bind_of, listen_socket, listen_of, free_place, next_at, accept_next, accept_socket, are_flags, accept_flagged, accept_of, link_output, read_socket, with_output, write_link, write_socket, close_socket}
+use Rattle.nv_sockets.specs.Sockets.{Inbox, Link, Net, Answer, only, socket_at, on_socket, is_tcp, made_at, socket_of, is_size, port_in, is_used, bind_to, bind_socket, bind_of, listen_socket, listen_of, free_place, next_at, accept_next, accept_socket, are_flags, accept_flagged, accept_of, is_going, link_output, read_socket, with_output, write_link, write_socket, close_socket}
 use Rattle.nv_sockets.specs.Serving.{State, answered, unless_bad, or_own, serve, link_written, link_from}
 use Rattle.nv_arrivals.specs.Arrivals.{Arrival, Input, InputEnd, ClientsEnd, Connect, Data, End, Time}
 use Rattle.nv_arrivals.specs.Doings.{Said, Sent, Printed, sayings}
@@ -32,7 +32,7 @@ use Rattle.nv_laws.proofs.Console.{drop-front, drop-all, sayings_of}
 use Rattle.nv_laws.proofs.LaterCalls.{Still, later_still}
 
 abbrev no_link : Link
-no_link = record { port = 0; input = []; output = [] }
+no_link = record { port = 0; inbox = None; output = [] }
 
 -- ---- the links of a net
 
@@ -43,13 +43,13 @@ pushed [] x (suc j) e = refl
 pushed (y ∷ ys) x zero e = refl
 pushed (y ∷ ys) x (suc j) e = pushed ys x j e
 
--- other bytes come
-came : (xs : List Link) (i j : ℕ) (bytes : List ℕ) → (slice_index_or (slice_set xs i (record (slice_index_or xs i no_link) { input = bytes })) j no_link).output ≡ (slice_index_or xs j no_link).output
-came [] i j bytes = refl
-came (x ∷ xs) zero zero bytes = refl
-came (x ∷ xs) zero (suc j) bytes = refl
-came (x ∷ xs) (suc i) zero bytes = refl
-came (x ∷ xs) (suc i) (suc j) bytes = came xs i j bytes
+-- what isn't read of a link changes
+came : (xs : List Link) (i j : ℕ) (inbox : Option Inbox) → (slice_index_or (slice_set xs i (record (slice_index_or xs i no_link) { inbox = inbox })) j no_link).output ≡ (slice_index_or xs j no_link).output
+came [] i j inbox = refl
+came (x ∷ xs) zero zero inbox = refl
+came (x ∷ xs) zero (suc j) inbox = refl
+came (x ∷ xs) (suc i) zero inbox = refl
+came (x ∷ xs) (suc i) (suc j) inbox = came xs i j inbox
 
 -- other bytes are written: to this link, where it is one
 wrote : (xs : List Link) (i : ℕ) (bytes : List ℕ) → i < length xs → (slice_index_or (slice_set xs i (record (slice_index_or xs i no_link) { output = bytes })) i no_link).output ≡ bytes
@@ -92,14 +92,14 @@ sent_none None = refl
 sent_none (Some Fresh) = refl
 sent_none (Some (Bound port)) = refl
 sent_none (Some (Listening port)) = refl
-sent_none (Some (Connected i read)) = refl
+sent_none (Some (Connected i)) = refl
 
 written_same : (o : Option Socket) (net now : Net) → ((j : ℕ) → link_output now j ≡ link_output net j) → written now o ≡ written net o
 written_same None net now e = refl
 written_same (Some Fresh) net now e = refl
 written_same (Some (Bound port)) net now e = refl
 written_same (Some (Listening port)) net now e = refl
-written_same (Some (Connected i read)) net now e = e i
+written_same (Some (Connected i)) net now e = e i
 
 same_outputs : (o : Option Socket) (net now : Net) → ((j : ℕ) → link_output now j ≡ link_output net j) → Sends o net now
 same_outputs o net now e j =
@@ -112,14 +112,14 @@ same_links o net now e = same_outputs o net now (λ j. ap (λ (links : List Link
 
 -- ---- a write
 
-module _ (net : Net) (i read : ℕ) (part : List ℕ) where
+module _ (net : Net) (i : ℕ) (part : List ℕ) where
   abbrev later : Net
   later = with_output net i (link_output net i ++ part)
 
-  outside : length net.links ≤ i → Sends (Some (Connected i read)) net later
-  outside h = same_outputs (Some (Connected i read)) net later (λ j. wrote-none net.links i j (link_output net i ++ part) h)
+  outside : length net.links ≤ i → Sends (Some (Connected i)) net later
+  outside h = same_outputs (Some (Connected i)) net later (λ j. wrote-none net.links i j (link_output net i ++ part) h)
 
-  inside : i < length net.links → Sends (Some (Connected i read)) net later
+  inside : i < length net.links → Sends (Some (Connected i)) net later
   inside h j =
       let now : link_output later i ≡ link_output net i ++ part = wrote net.links i (link_output net i ++ part) h in
       let new : after (link_output net i) (link_output later i) ≡ part = ap (after (link_output net i)) now ∙ drop-front (link_output net i) part in
@@ -136,19 +136,20 @@ module _ (net : Net) (i read : ℕ) (part : List ℕ) where
       ∙ (sym (append-nil (link_output net j)) ∙ ap (λ z. link_output net j ++ z) (sym (text ∙ ap (λ b. cond b part []) no))))
       (cases_eq j i)
 
-  outputs : Sends (Some (Connected i read)) net later
+  outputs : Sends (Some (Connected i)) net later
   outputs = ⊎_elim inside outside (cases_lt i (length net.links))
 
 abbrev Says : Option Socket → Net → Answer → Type 0
 Says o net a = Sends o net a.net
 
-link_cases : (net : Net) (limit i read : ℕ) (bytes : List ℕ) → Says (Some (Connected i read)) net (write_link net limit i bytes)
-link_cases net limit i read bytes =
-    by_test (Says (Some (Connected i read)) net) (length bytes == 0) (only net _) _ (same_links (Some (Connected i read)) net net refl)
-    (by_test (Says (Some (Connected i read)) net) (nat_le limit (length (link_output net i))) (only net _) _ (same_links (Some (Connected i read)) net net refl)
-    (outputs net i read (take (limit - length (link_output net i)) bytes)))
+link_cases : (net : Net) (i : ℕ) (bytes : List ℕ) → Says (Some (Connected i)) net (write_link net i bytes)
+link_cases net i bytes =
+    by_test (Says (Some (Connected i)) net) (length bytes == 0) (only net _) _ (same_links (Some (Connected i)) net net refl)
+    (by_test (Says (Some (Connected i)) net) (not (is_going net i)) (only net _) _ (same_links (Some (Connected i)) net net refl)
+    (by_test (Says (Some (Connected i)) net) (nat_le net.limit (length (link_output net i))) (only net _) _ (same_links (Some (Connected i)) net net refl)
+    (outputs net i _)))
 
--- ---- the calls: all others leave the links
+-- ---- the calls: all others leave what was written to the links
 
 -- of an answer, where there is one
 abbrev Of : Option Socket → Net → Option Answer → Type 0
@@ -175,7 +176,7 @@ bind_cases net fd size address None = refl
 bind_cases net fd size address (Some Fresh) = by_test (Leaves net) (is_size size) (bind_to net fd (port_in address)) (only net _) (to_cases net fd (port_in address)) refl
 bind_cases net fd size address (Some (Bound port)) = refl
 bind_cases net fd size address (Some (Listening port)) = refl
-bind_cases net fd size address (Some (Connected i read)) = refl
+bind_cases net fd size address (Some (Connected i)) = refl
 
 bind_leaves : (net : Net) (fd size : ℕ) (address : List ℕ) → Leaves net (bind_of net fd size address)
 unfolding bind_of
@@ -186,7 +187,7 @@ listen_cases net fd None = refl
 listen_cases net fd (Some Fresh) = refl
 listen_cases net fd (Some (Bound port)) = refl
 listen_cases net fd (Some (Listening port)) = refl
-listen_cases net fd (Some (Connected i read)) = refl
+listen_cases net fd (Some (Connected i)) = refl
 
 listen_leaves : (net : Net) (fd : ℕ) → Leaves net (listen_of net fd)
 unfolding listen_of
@@ -201,7 +202,7 @@ socket_cases : (net : Net) (s : Socket) → Leaves net (accept_socket net s)
 socket_cases net Fresh = refl
 socket_cases net (Bound port) = refl
 socket_cases net (Listening port) = next_cases net (free_place net) (next_at net port)
-socket_cases net (Connected i read) = refl
+socket_cases net (Connected i) = refl
 
 accept_cases : (net : Net) (fd flags : ℕ) (o : Option Socket) → Leaves net (on_socket net fd o (accept_flagged net flags))
 accept_cases net fd flags None = refl
@@ -211,26 +212,36 @@ accept_leaves : (net : Net) (fd flags : ℕ) → Leaves net (accept_of net fd fl
 unfolding accept_of
 accept_leaves net fd flags = accept_cases net fd flags (socket_at net fd)
 
-read_leaves : (net : Net) (fd n : ℕ) (s : Socket) → Leaves net (read_socket net fd n s)
-read_leaves net fd n Fresh = refl
-read_leaves net fd n (Bound port) = refl
-read_leaves net fd n (Listening port) = refl
-read_leaves net fd n (Connected i read) = refl
+-- a read and a close change what isn't read of a link, and nothing that was written to one
+abbrev Keeps : Net → Answer → Type 0
+Keeps net a = (j : ℕ) → link_output a.net j ≡ link_output net j
 
-read_cases : (net : Net) (fd n : ℕ) (o p : Option Socket) → Of o net (option_map (read_socket net fd n) p)
-read_cases net fd n o None = tt
-read_cases net fd n o (Some s) = same_links o net (read_socket net fd n s).net (read_leaves net fd n s)
+read_keeps : (net : Net) (n : ℕ) (s : Socket) → Keeps net (read_socket net n s)
+read_keeps net n Fresh j = refl
+read_keeps net n (Bound port) j = refl
+read_keeps net n (Listening port) j = refl
+read_keeps net n (Connected i) j = came net.links i j _
+
+read_cases : (net : Net) (n : ℕ) (o p : Option Socket) → Of o net (option_map (read_socket net n) p)
+read_cases net n o None = tt
+read_cases net n o (Some s) = same_outputs o net (read_socket net n s).net (read_keeps net n s)
+
+close_keeps : (net : Net) (fd : ℕ) (s : Socket) → Keeps net (close_socket net fd s)
+close_keeps net fd Fresh j = refl
+close_keeps net fd (Bound port) j = refl
+close_keeps net fd (Listening port) j = refl
+close_keeps net fd (Connected i) j = came net.links i j None
 
 close_cases : (net : Net) (fd : ℕ) (o p : Option Socket) → Of o net (option_map (close_socket net fd) p)
 close_cases net fd o None = tt
-close_cases net fd o (Some s) = same_links o net (close_socket net fd s).net refl
+close_cases net fd o (Some s) = same_outputs o net (close_socket net fd s).net (close_keeps net fd s)
 
 write_cases : (net : Net) (bytes : List ℕ) (o : Option Socket) → Of o net (option_map (write_socket net bytes) o)
 write_cases net bytes None = tt
 write_cases net bytes (Some Fresh) = same_links (Some Fresh) net net refl
 write_cases net bytes (Some (Bound port)) = same_links (Some (Bound port)) net net refl
 write_cases net bytes (Some (Listening port)) = same_links (Some (Listening port)) net net refl
-write_cases net bytes (Some (Connected i read)) = link_cases net 1048576 i read bytes
+write_cases net bytes (Some (Connected i)) = link_cases net i bytes
 
 abbrev asked_of : Net → Request → Option Socket
 asked_of net c = socket_at net (request_arg c 0)
@@ -242,8 +253,8 @@ answers call.Listen net c = same_links (asked_of net c) net (listen_of net (requ
 answers call.Accept net c = same_links (asked_of net c) net (accept_of net (request_arg c 0) 0).net (accept_leaves net (request_arg c 0) 0)
 answers call.Accept4 net c = same_links (asked_of net c) net (accept_of net (request_arg c 0) (request_arg c 3)).net (accept_leaves net (request_arg c 0) (request_arg c 3))
 answers call.Close net c = close_cases net (request_arg c 0) (asked_of net c) (asked_of net c)
-answers call.Read net c = read_cases net (request_arg c 0) _ (asked_of net c) (asked_of net c)
-answers call.Readv net c = by_test (Of (asked_of net c) net) (nat_lt MOST_VECTORS (request_arg c 2)) None _ tt (read_cases net (request_arg c 0) _ (asked_of net c) (asked_of net c))
+answers call.Read net c = read_cases net _ (asked_of net c) (asked_of net c)
+answers call.Readv net c = by_test (Of (asked_of net c) net) (nat_lt MOST_VECTORS (request_arg c 2)) None _ tt (read_cases net _ (asked_of net c) (asked_of net c))
 answers call.Write net c = write_cases net c.payload (asked_of net c)
 answers call.Writev net c = by_test (Of (asked_of net c) net) (nat_lt MOST_VECTORS (request_arg c 2)) None _ tt (write_cases net c.payload (asked_of net c))
 answers _ net c = tt
@@ -276,7 +287,7 @@ outputs_same s InputEnd j = refl
 outputs_same s ClientsEnd j = refl
 outputs_same s (Connect port) j = pushed s.state.net.links _ j refl
 outputs_same s (Data i bytes) j = came s.state.net.links i j _
-outputs_same s (End i) j = refl
+outputs_same s (End i) j = came s.state.net.links i j _
 outputs_same s (Time seconds nanos) j = refl
 
 outputs_still : (s : Standing) (xs : List Arrival) (j : ℕ) → link_output (arrive_all s xs).state.net j ≡ link_output s.state.net j
@@ -290,7 +301,7 @@ accepted_none j None = refl
 accepted_none j (Some Fresh) = refl
 accepted_none j (Some (Bound port)) = refl
 accepted_none j (Some (Listening port)) = refl
-accepted_none j (Some (Connected i read)) = refl
+accepted_none j (Some (Connected i)) = refl
 
 accepts_none : (j : ℕ) (k : Syscall) (o : Option Socket) → sent_text j (accepted k o) ≡ []
 accepts_none j call.Accept o = accepted_none j o
@@ -298,8 +309,8 @@ accepts_none j call.Accept4 o = accepted_none j o
 accepts_none j _ o = refl
 
 closed_none : (j : ℕ) (o p : Option Socket) → sent_text j (closed o p) ≡ []
-closed_none j (Some (Connected i read)) None = refl
-closed_none j (Some (Connected i read)) (Some p) = refl
+closed_none j (Some (Connected i)) None = refl
+closed_none j (Some (Connected i)) (Some p) = refl
 closed_none j (Some Fresh) p = refl
 closed_none j (Some (Bound port)) p = refl
 closed_none j (Some (Listening port)) p = refl

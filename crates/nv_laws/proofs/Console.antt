@@ -1,5 +1,5 @@
 -- What calls print, joined, is what stands on the console.
-use Rattle.std.proofs.Common.{◌≡◌, ◌∙◌, sym, ap, subst, refl, ℕ, ℤ, ◌+◌, ◌-◌, cond, not, ◌||◌, ◌==◌, nat_le, nat_lt, List, [], ◌∷◌, ◌++◌, length, take, drop, map, Option, Some, None, append_assoc, append-nil}
+use Rattle.std.proofs.Common.{◌≡◌, ◌∙◌, sym, ap, subst, refl, ℕ, ℤ, ◌+◌, cond, not, ◌||◌, ◌==◌, nat_le, nat_lt, List, [], ◌∷◌, ◌++◌, length, take, drop, map, Option, Some, None, append_assoc, append-nil}
 use Rattle.std.specs.Prelude.{IfSome}
 use Rattle.std.specs.Int.{cast_signed, w32}
 use Rattle.std.proofs.lemmas.List.Concat.{flat_map-append}
@@ -181,7 +181,7 @@ module _ (s : FileState) where
   same_longer a e = e ∙ (grows-same s.console ∙ ap (λ z. s.console ++ after s.console z) (sym e))
 
   console_cases : (limit : ℕ) (bytes : List ℕ) → Longer (write_console s limit bytes)
-  console_cases limit bytes = by_test Longer (nat_le limit (length s.console)) (only s ENOSPC) _ (grows-same s.console) (grows-more s.console (take (limit - length s.console) bytes))
+  console_cases limit bytes = by_test Longer (nat_le limit (length s.console)) (only s ENOSPC) _ (grows-same s.console) (grows-more s.console _)
 
   stored_cases : (o : ℕ × OpenFile) (i limit start : ℕ) (bytes : List ℕ) → Kept (write_at s o.0 o.1 i limit start bytes)
   stored_cases o i limit start bytes = by_test Kept (nat_le limit start) (only s EFBIG) _ refl refl
@@ -191,7 +191,7 @@ module _ (s : FileState) where
       by_test Kept (not (has_open s (target.Reader k))) (only s EPIPE) _ refl (by_test Kept (nat_lt limit (length (pipe_at s k) + length bytes)) (only s EAGAIN) _ refl refl)
 
   target_cases : (o : ℕ × OpenFile) (t : Target) (bytes : List ℕ) → Longer (write_target s o.0 o.1 t bytes)
-  target_cases o target.Console bytes = console_cases 16777216 bytes
+  target_cases o target.Console bytes = console_cases s.limit bytes
   target_cases o (target.File i) bytes = same_longer (write_at s o.0 o.1 i 1048576 (start_of s o.1 i) bytes) (stored_cases o i 1048576 (start_of s o.1 i) bytes)
   target_cases o (target.Writer k) bytes = same_longer (write_pipe s k 4096 bytes) (piped_cases k 4096 bytes)
   target_cases o target.Input bytes = grows-same s.console
@@ -273,7 +273,7 @@ accepted_plain None = refl
 accepted_plain (Some socket.Fresh) = refl
 accepted_plain (Some (socket.Bound port)) = refl
 accepted_plain (Some (socket.Listening port)) = refl
-accepted_plain (Some (socket.Connected i read)) = refl
+accepted_plain (Some (socket.Connected i)) = refl
 
 accepts_plain : (k : Syscall) (o : Option Socket) → plain_text (accepted k o) ≡ []
 accepts_plain call.Accept o = accepted_plain o
@@ -289,11 +289,11 @@ sent_plain None bytes = refl
 sent_plain (Some socket.Fresh) bytes = refl
 sent_plain (Some (socket.Bound port)) bytes = refl
 sent_plain (Some (socket.Listening port)) bytes = refl
-sent_plain (Some (socket.Connected i read)) bytes = bytes_plain i bytes
+sent_plain (Some (socket.Connected i)) bytes = bytes_plain i bytes
 
 closed_plain : (o p : Option Socket) → plain_text (closed o p) ≡ []
-closed_plain (Some (socket.Connected i read)) None = refl
-closed_plain (Some (socket.Connected i read)) (Some p) = refl
+closed_plain (Some (socket.Connected i)) None = refl
+closed_plain (Some (socket.Connected i)) (Some p) = refl
 closed_plain (Some socket.Fresh) p = refl
 closed_plain (Some (socket.Bound port)) p = refl
 closed_plain (Some (socket.Listening port)) p = refl

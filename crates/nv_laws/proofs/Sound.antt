@@ -30,7 +30,7 @@ stands_on f g p q (Reader k) a b h = omega (arith, h)
 stands_on f g p q (Writer k) a b h = omega (arith, h)
 
 pub grown : (s : FileState) (files : List Inode) (pipes : List (List ℕ)) (input console : List ℕ) → AreSoundTables s → length s.files ≤ length files → length s.pipes ≤ length pipes
-    → AreSoundTables record { descriptors = s.descriptors; opens = s.opens; files = files; pipes = pipes; input = input; console = console }
+    → AreSoundTables (record s { files = files; pipes = pipes; input = input; console = console })
 grown s files pipes input console h a b = record {
   count = h.count;
   descriptors = h.descriptors;
@@ -120,9 +120,9 @@ none_left zero d = refl
 none_left (suc n) zero = refl
 none_left (suc n) (suc d) = none_left n d
 
-pub first_is_sound : (input : List ℕ) (files : List Inode) → AreSoundTables (first_state input files)
+pub first_is_sound : (polls : Bool) (input : List ℕ) (files : List Inode) → AreSoundTables (first_state polls input files)
 unfolding first_descriptors
-first_is_sound input files = record { count = refl; descriptors = named; opens = standing }
+first_is_sound polls input files = record { count = refl; descriptors = named; opens = standing }
   where
     named : (fd n : ℕ) → get_or first_descriptors fd None ≡ Some n → n < 2
     named zero n e = omega (arith, some_is 0 n e)

@@ -40,4 +40,4 @@ after s [] h = h
 after s (c ∷ cs) h = after (serve s c).state cs (step s c h)
 
 pub sound_after : (setup : Setup) (cs : List Request) → AreSoundTables (state_after (first_state setup) cs).own.files
-sound_after setup cs = after (first_state setup) cs (first_is_sound _ _)
+sound_after setup cs = after (first_state setup) cs (first_is_sound _ _ _)

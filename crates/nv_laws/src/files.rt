@@ -1,5 +1,5 @@
 // What holds of every call on files.
-ghost use Rattle.std.specs.Prelude.{◌⊎◌, ℕ, ℤ, List};
+ghost use Rattle.std.specs.Prelude.{◌⊎◌, ℕ, ℤ, Bool, List};
 ghost use Rattle.nv_fs.specs.States.{FileState, Inode};
 ghost use Rattle.nv_fs.specs.Starts.{first_state};
 ghost use Rattle.nv_fs.specs.Closes.{close_of, dup_of, dup3_of};
@@ -13,7 +13,7 @@ ghost use Rattle.nv_laws.specs.Calls.{ChangesNothing, HasOpened, HasDoubled, Has
 
 /// The first tables are sound, and each call leaves them so.
 pub fn calls_keep_the_tables_sound()
-    ensures first { (input : List ℕ) (files : List Inode) → AreSoundTables (first_state input files) }
+    ensures first { (polls : Bool) (input : List ℕ) (files : List Inode) → AreSoundTables (first_state polls input files) }
     ensures open_at { (s : FileState) (dir : ℤ) (path : List ℕ) (flags : ℕ) → AreSoundTables s → AreSoundTables (open_at_of s dir path flags).state }
     ensures unlink_at { (s : FileState) (dir : ℤ) (path : List ℕ) (flags : ℕ) → AreSoundTables s → AreSoundTables (unlink_at_of s dir path flags).state }
     ensures close { (s : FileState) (fd : ℕ) → AreSoundTables s → AreSoundTables (close_of s fd).state }

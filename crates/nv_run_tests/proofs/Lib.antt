@@ -3,4 +3,5 @@ mod Learned
 mod Sounds
 pub mod Texts
 pub mod Rests
+pub mod KeptStanding
 pub mod Sending

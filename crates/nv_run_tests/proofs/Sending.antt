@@ -16,6 +16,7 @@ use Rattle.nv_arriving.specs.Arriving.{start_of_arrivals}
 use Rattle.nv_arriving.specs.Standing.{StandsAt}
 use Rattle.nv_arriving.specs.contracts.answering.Guests as Guests
 use Rattle.nv_run_tests.specs.contracts.refusing.RefusingKernel as RefusingKernel
+use Rattle.nv_run_tests.specs.Keeping.{StandsKept}
 use Rattle.nv_run_tests.specs.contracts.kept.Kept as Kept
 
 pub script_kernel_send : IsSend (Kernel.the_row Devices.the_row DevicesAnswers.ghosts)
@@ -33,7 +34,7 @@ kept_answers X o = record {
   beginning_code = nothing_code;
   start = λ setup k. tt;
   known = λ setup k. start_of_arrivals setup k.guests.came;
-  stands = λ k. StandsAt o.did o.is_over k.guests;
+  stands = λ k. StandsKept o.did o.is_over k.guests;
   keeps_all = true;
   is_ready = λ k c. Unit {0};
 }

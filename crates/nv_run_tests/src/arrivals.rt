@@ -307,9 +307,15 @@ fn live_server<R: Abort>(rt: &R, alloc: Global) -> ArrivingKernel<Clients>
 const SERVED: &[u8] =
     b"<+>+0<+<1:one <0:zero>0:zero<0.>-0>+1>1:one <1:more>1:more<1.>-1<+<2:lost<+>+3<3.>-3";
 
-// What each client was sent, by the account, and what was done while they were served.
-fn assert_sent<R: Abort>(rt: &R, guests: &Guests<Clients>) {
+// What was done while they were served.
+fn assert_done<R: Abort>(rt: &R, guests: &Guests<Clients>) {
     assert_eq!(rt; guests.outside().done.text.as_slice(), SERVED);
+}
+
+// What each client was sent, by the account, where it is kept.
+fn assert_sent<R: Abort>(rt: &R, kernel: &KeptKernel<Clients>) {
+    let guests = &kernel.answers().guests;
+    assert_done(rt, guests);
     let sent = guests.connections();
     assert_eq!(rt; sent.len(), 4);
     for (client, port, bytes) in [
@@ -320,7 +326,7 @@ fn assert_sent<R: Abort>(rt: &R, guests: &Guests<Clients>) {
     ] {
         let connection = sent.get(client).expect(rt, "a connection");
         assert_eq!(rt; connection.port, port);
-        assert_eq!(rt; connection.output.as_slice(), bytes);
+        assert_eq!(rt; connection.output.kept(), bytes);
     }
 }
 
@@ -337,7 +343,7 @@ fn served_live<R: Threads + Wait + Sync + Abort>(
         rt, alloc, kernel, texts, None, &OpenGate, &hands, 2, threads,
     );
     let account = account.expect(rt, "a run");
-    assert_sent(rt, account.kernel.answers());
+    assert_done(rt, account.kernel.answers());
     assert_eq!(rt; account.kernel.ended(), Some(3));
 }
 
@@ -354,7 +360,7 @@ fn served_kept<R: Threads + Wait + Sync + Abort>(
         rt, alloc, kernel, texts, None, &OpenGate, &hands, 2, threads,
     );
     let account = account.expect(rt, "a run");
-    assert_sent(rt, &account.kernel.answers().guests);
+    assert_sent(rt, &account.kernel);
     text_of(rt, alloc, Some(account))
 }
 
@@ -374,7 +380,7 @@ fn clients_come(rt: HostRuntime) {
         assert_eq!(&rt; account.kernel.history().len(), 20);
         assert_eq!(&rt; account.kernel.output(), b"".as_slice());
         assert_eq!(&rt; account.kernel.ended(), Some(3));
-        assert_sent(&rt, &account.kernel.answers().guests);
+        assert_sent(&rt, &account.kernel);
         let plain = text_of(&rt, alloc, Some(account));
         for threads in [1, 2] {
             served_live(&rt, alloc, &texts, threads);

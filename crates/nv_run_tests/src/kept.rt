@@ -1,8 +1,7 @@
-//! A live run over a kernel that keeps its whole log, as the plain monitor wants it.
+//! A live run over a kernel that keeps its whole log and all that it says, as the plain monitor wants it.
 ghost use Rattle.std.specs.Prelude.{◌≡◌, [], IsTrue, IfOk};
 ghost use Rattle.nv_script.specs.Scripts.{is_script};
 ghost use Rattle.nv_script.specs.Views.{setup_of};
-ghost use Rattle.nv_arriving.specs.Standing.{StandsAt};
 
 use nv_arrivals::Outside;
 use nv_arriving::Guests;
@@ -12,7 +11,7 @@ use nv_live::Telling;
 use nv_script::Script;
 use std::alloc::{AllocError, Global};
 
-/// What answers a live run's calls, for a kernel that keeps each event.
+/// What answers a live run's calls, for a kernel that keeps each event, and lets nothing go that it says.
 #[derive(Drop)]
 pub struct Kept<O: Outside> {
     pub guests: Guests<O>,
@@ -30,7 +29,7 @@ pub fn make_kept<O: Outside + Telling + Send>(
     requires script { IsTrue (is_script (setup_of script.now)) }
     ensures { IfOk result (λ k. k.log ≡ []) }
 {
-    let guests = Guests::make(alloc, script, outside)?;
+    let guests = Guests::make(alloc, script, outside, true)?;
     Kernel::over(alloc, script, Kept { guests })
 }
 
@@ -40,7 +39,7 @@ impl<O: Outside + Telling + Send> Answers for Kept<O> {
     ghost use Rattle.nv_arriving.specs.Arriving.{start_of_arrivals};
     ghost use Rattle.nv_arriving.specs.Beginnings.{begun_code};
     ghost use Rattle.nv_arriving.specs.Kernel.{Begun, CanServe, begun_in};
-    ghost use Rattle.nv_arriving.specs.Standing.{StandsAt};
+    ghost use Rattle.nv_run_tests.specs.Keeping.{StandsKept};
 
     ghost Beginning = { Begun O.Told };
 
@@ -50,7 +49,7 @@ impl<O: Outside + Telling + Send> Answers for Kept<O> {
 
     ghost known = { λ setup k. start_of_arrivals setup k.guests.came };
 
-    ghost stands = { λ k. StandsAt O.did O.is_over k.guests };
+    ghost stands = { λ k. StandsKept O.did O.is_over k.guests };
 
     ghost keeps_all = { true };
 
@@ -71,14 +70,14 @@ impl<O: Outside + Telling + Send> Answers for Kept<O> {
     fn is_over(&self) -> bool {
         self.guests.is_over()
     }
-
-    fn console(&self) -> &[u8] {
-        self.guests.console()
-    }
 }
 
 impl<O: Outside + Telling + Send> KeepsAll for Kept<O> {
     ghost use Rattle.std.specs.Prelude.{refl};
 
     ghost all_kept = { refl };
+
+    fn console(&self) -> &[u8] {
+        self.guests.console()
+    }
 }

@@ -2,7 +2,6 @@ use Rattle.std.proofs.Common.{◌∙◌, ◌≤◌, ap, sym, List, length, map, 
 use Rattle.std.proofs.lemmas.List.{length-map}
 use Rattle.nv_arrivals.specs.Arrivals.{Arrival}
 use Rattle.nv_calls.specs.Calls.{request}
-use Rattle.nv_arriving.specs.declared.waiting.Want.{Want}
 use Rattle.nv_arriving.specs.Arrivals.{ends, any_ends, in_vain}
 use Rattle.nv_arriving.specs.Views.{standing_of}
 use Rattle.nv_arrivals.specs.Views.{view as arrival_of}

@@ -21,7 +21,7 @@ module _ (c : goal.After-connections) where
   links =
       let k = c.args.kernel.now in
       let stands = c.answers.ensures.stands in
-      c.connections.ensures ∙ ap (λ (l : Listed). l.guests.stage.here.state.net.links) c.answers.ensures.is ∙ ap (λ (z : Stage). z.here.state.net.links) stands.here.stage
+      c.connections.ensures.links ∙ ap (λ (l : Listed). l.guests.stage.here.state.net.links) c.answers.ensures.is ∙ ap (λ (z : Stage). z.here.state.net.links) stands.here.stage
       ∙ ap (λ (z : List Arrival). (stage_after (first_stage k.setup z) (calls_of k.log)).here.state.net.links) stands.all
 
 pub returns-clause-links : goal.returns-clause-links

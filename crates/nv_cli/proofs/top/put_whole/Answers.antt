@@ -17,3 +17,6 @@ returns g c = puts-then c.in_ok-write.ensures (puts-is (ap connections_text c.co
 pub returns-in_err-write : goal.returns-in_err-write
 returns-in_err-write g c =
     puts-failed (connections_text (connections_of (start_from c.args.account.now.kernel.setup) c.args.account.now.kernel.log)) c.from_residual.ensures.0 c.in_err-write.ensures
+
+pub put_connections-requires : goal.put_connections-requires
+put_connections-requires g c = c.connections.ensures.gone

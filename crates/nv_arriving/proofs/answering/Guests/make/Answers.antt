@@ -13,6 +13,6 @@ returns-clause-stands g c =
     let begun : g.row.O.Denot = c.of-begun.result.value in
     let setup : Setup = setup_of c.args.script.now in
     let none : map arrival_of c.new.result.items ≡ [] = ap (map arrival_of) c.new.ensures.items in
-    stands_first g.O.Outside.did g.O.Outside.is_over setup [] _ (λ i. record { here = c.in_ok-side.ensures i; rest = none i }) none (λ o. cc)
+    stands_first g.O.Outside.did g.O.Outside.is_over setup [] _ (λ i. record { here = c.in_ok-side.ensures.standing i; rest = none i }) none (λ o. cc)
     (subst (λ (z : g.row.O.Denot). Tells g.O.Outside.did begun z setup (map arrival_of c.new.result.items) [] false) c.of-begun.ensures
     (subst (λ (z : List Arrival). Tells g.O.Outside.did begun begun setup z [] false) (sym none) (told_first g.O.Outside.did begun setup)))

@@ -56,7 +56,7 @@ module _ (g : Over) (c : After-pass g) where
 
   -- as it was, and as the call leaves it
   abbrev was : Coming g.row.O.Denot
-  was = record { stage = mine; begun = c.self.inside.begun.value; outside = c.self.inside.outside; came = came; late = c.self.inside.late; over = c.self.inside.over; room = room_of c.self.inside.side }
+  was = record { stage = mine; begun = c.self.inside.begun.value; outside = c.self.inside.outside; came = came; late = c.self.inside.late; over = c.self.inside.over; keeps = c.self.inside.keeps; room = room_of c.self.inside.side }
 
   abbrev now_where : List code.Arrival → Coming g.row.O.Denot
   now_where came' = record {
@@ -66,6 +66,7 @@ module _ (g : Over) (c : After-pass g) where
     came = map arrival_of came';
     late = c.is_late-self-inside.result;
     over = c.self.inside.over;
+    keeps = c.self.inside.keeps;
     room = room_of c.answer-ret.new.self;
   }
 

@@ -17,6 +17,7 @@ returns-clause-stands g c = λ setup log s.
       came = came;
       late = c.self.inside.late;
       over = c.self.inside.over;
+      keeps = c.self.inside.keeps;
       room = room_of c.self.inside.side;
     } in
     stands_asked g.O.Outside.did g.O.Outside.is_over was c.hands_over.new.self c.hands_over.result c.args.length c.hands_over.ensures.told c.hands_over.ensures.stays setup log

@@ -2,7 +2,6 @@ use Rattle.std.proofs.Common.{◌≡◌, ◌∙◌, sym, ap, ◌+◌, ◌-◌, �
 use Rattle.std.specs.Int.{to_le_bytes, w16}
 use Rattle.nv_arriving.specs.Polling.{polled_at, polled_from, told_of, told_in}
 use Rattle.nv_arriving.specs.Standings.{Standing}
-use Rattle.nv_arriving.specs.declared.polled.Polled.{Polled}
 use Rattle.nv_arriving.specs.Views.{standing_of}
 use Rattle.nv_arriving.proofs.LaterLaws.{told_first}
 use Rattle.nv_arriving.proofs.guests.GuestSide.+add_told.Goals as goal

@@ -1,5 +1,5 @@
 use Rattle.std.proofs.Common.{rules, ◌≡◌, ◌∙◌, ap, sym, subst, length, map, arith, to_z, of_z, w32}
-use Rattle.nv_calls.specs.Calls.{Request, request}
+use Rattle.nv_calls.specs.Calls.{request}
 use Rattle.nv_kernel.specs.Crew.{Crew}
 use Rattle.nv_kernel.specs.Reserved.{CanAnswer}
 use Rattle.nv_sockets.specs.Kernel.{state_of}
@@ -10,7 +10,10 @@ use Rattle.nv_arriving.specs.Arriving.{Standing, arrive_all, unless_vain, serve_
 use Rattle.nv_arriving.specs.Doings.{said}
 use Rattle.nv_arriving.specs.Telling.{Adds}
 use Rattle.nv_arrivals.specs.Views.{view as arrival_of}
-use Rattle.nv_arriving.specs.Views.{standing_of}
+use Rattle.nv_arriving.specs.declared.guests.GuestSide.{GuestSide}
+use Rattle.nv_arriving.specs.Reserved.{IsKept}
+use Rattle.nv_arriving.specs.Views.{standing_of, room_of}
+use Rattle.nv_arriving.proofs.Rooms.{kept_by}
 use Rattle.nv_arriving.proofs.Sides.{can_still, crew_still, served_still, sends_after}
 use Rattle.nv_arriving.proofs.guests.GuestSide.answer.Given.{Over}
 use Rattle.nv_arriving.proofs.guests.GuestSide.answer.Goals.{After-tell_end}
@@ -19,7 +22,7 @@ use Rattle.nv_arriving.proofs.guests.GuestSide.answer.Goals as goal
 pub answer_by-ret-requires-clause-ready : goal.answer_by-ret-requires-clause-ready
 answer_by-ret-requires-clause-ready g c =
     subst (λ (h : Host). CanAnswer h.devices.files (request c.args.call.now)) (sym c.tell_end.ensures.host)
-    (can_still _ _ (request c.args.call.now) c.arrive_all.ensures.disk.state c.arrive_all.ensures.disk.reserved c.requires.ready)
+    (can_still _ _ (request c.args.call.now) c.arrive_all.ensures.disk.state c.arrive_all.ensures.disk.reserved c.arrive_all.ensures.disk.gone c.requires.ready)
 
 pub answer_by-ret-requires-clause-few : goal.answer_by-ret-requires-clause-few
 answer_by-ret-requires-clause-few g c =
@@ -48,9 +51,20 @@ returns-clause-answer g c =
     let is = here g (goal.at.returns-clause-answer g c).After-tell_end in
     let back : to_z w32 (of_z w32 c.answer_by-ret.result) ≡ c.answer_by-ret.result = search rules in
     (λ i. serve_by (sym is i) (request c.args.call.now) (sym c.until-until.ensures i)) ∙ c.answer_by-ret.ensures.answer
-    ∙ (λ i. record { here = standing_of c.answer_by-ret.new.self; ret = sym back i; payload = c.answer_by-ret.new.out.bytes })
+    ∙ (λ i. record { here = sym c.let_go_unless.ensures.standing i; ret = sym back i; payload = c.answer_by-ret.new.out.bytes })
 
 pub returns-clause-said : goal.returns-clause-said
 returns-clause-said g c =
-    subst (λ (s : Standing). Adds g.O.Outside.did c.args.outside.now c.say.new.outside (map Says (said s.state (request c.args.call.now) (to_z w32 (of_z w32 c.answer_by-ret.result)) (state_of c.answer_by-ret.new.self.host))))
-    (here g (goal.at.returns-clause-said g c).After-tell_end) (c.say.ensures.says (state_of c.tell_end.new.self.host) c.of-mark.ensures)
+    subst (λ (z : Standing). Adds g.O.Outside.did c.args.outside.now c.say.new.outside
+    (map Says (said (unless_vain c.args.vain (arrive_all (standing_of c.args.self.now) (map arrival_of c.args.arrivals.now))).state (request c.args.call.now) (to_z w32 (of_z w32 c.answer_by-ret.result)) z.state)))
+    (sym c.let_go_unless.ensures.standing)
+    (subst (λ (s : Standing). Adds g.O.Outside.did c.args.outside.now c.say.new.outside (map Says (said s.state (request c.args.call.now) (to_z w32 (of_z w32 c.answer_by-ret.result)) (state_of c.answer_by-ret.new.self.host))))
+    (here g (goal.at.returns-clause-said g c).After-tell_end) (c.say.ensures.says c.tell_end.new.self.host c.of-mark.ensures c.answer_by-ret.ensures.held c.answer_by-ret.ensures.gone))
+
+pub returns-clause-kept : goal.returns-clause-kept
+returns-clause-kept g c = λ keeps h.
+    let host = c.tell_end.ensures.host in
+    subst (λ (s : GuestSide). IsKept (room_of s)) (sym (c.let_go_unless.ensures.kept keeps))
+    (c.answer_by-ret.ensures.kept
+    (kept_by (room_of c.arrive_all.new.self) (room_of c.tell_end.new.self) (ap (λ (z : Host). z.sockets.held) host) (ap (λ (z : Host). z.devices.files.gone) host)
+    (c.arrive_all.ensures.kept h)))

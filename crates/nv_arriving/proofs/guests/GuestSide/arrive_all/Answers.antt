@@ -10,7 +10,7 @@ use Rattle.nv_arriving.proofs.Steps.{step, rest_step, whole}
 use Rattle.nv_arriving.proofs.guests.GuestSide.arrive_all.Goals as goal
 
 pub loop-arrival-init : goal.loop-arrival-init
-loop-arrival-init c = record { standing = refl; disk = same_but_none c.args.self.now.host.devices.files; none = λ _. refl; takes = c.requires }
+loop-arrival-init c = record { standing = refl; disk = same_but_none c.args.self.now.host.devices.files; none = λ _. refl; kept = λ h. h; takes = c.requires }
 
 pub arrive-requires : goal.arrive-requires
 arrive-requires c =
@@ -30,6 +30,7 @@ loop-arrival-preserved c =
           ∙ ap (arrive_all (standing_of c.args.self.now)) (sym (step c.args.arrivals.now c.loop-arrival.arrival-index c.arrival-item.result c.loop-arrival-test.true c.arrival-item.is))));
       disk = same_but_more _ _ _ c.loop-arrival.invariant.disk c.arrive.ensures.disk;
       none = λ e. absurd (omega (arith, e, c.loop-arrival-test.true));
+      kept = λ h. c.arrive.ensures.kept (c.loop-arrival.invariant.kept h);
       takes = can_take (room_of c.arrive.new.self) back (c.arrive.ensures.room back (subst (CanTakeIn (room_of c.loop-arrival.self)) rest c.loop-arrival.invariant.takes));
     }
 
@@ -41,3 +42,6 @@ returns-clause-disk c = c.loop-arrival.invariant.disk
 
 pub returns-clause-none : goal.returns-clause-none
 returns-clause-none c = c.loop-arrival.invariant.none
+
+pub returns-clause-kept : goal.returns-clause-kept
+returns-clause-kept c = c.loop-arrival.invariant.kept

@@ -13,7 +13,7 @@ returns-clause-ready c =
     let d : Disk = c.reserve.new.self.devices.files in
     let e : Disk = c.reserve_some.new.self.host.devices.files in
     let s : e.state ≡ record d.state { input = e.state.input } = c.reserve_some.ensures.state ∙ ap (λ (z : FileState). record d.state { input = z.input }) (sym c.reserve_some.ensures.state) in
-    on_ok_weaker {Q = CanAnswer e (request c.args.call.now)} c.reserve_some.result (λ _. can_still d e (request c.args.call.now) s c.reserve_some.ensures.reserved c.in_ok-reserve.ensures.ready) c.reserve_some.ensures.takes
+    on_ok_weaker {Q = CanAnswer e (request c.args.call.now)} c.reserve_some.result (λ _. can_still d e (request c.args.call.now) s c.reserve_some.ensures.reserved c.reserve_some.ensures.gone c.in_ok-reserve.ensures.ready) c.reserve_some.ensures.takes
 
 pub returns-clause-sends : goal.returns-clause-sends
 returns-clause-sends c =

@@ -13,4 +13,4 @@ pub returns-clause-answer : goal.returns-clause-answer
 returns-clause-answer c =
     let back : to_z w32 (of_z w32 c.answer.result) ≡ c.answer.result = search rules in
     subst (λ (r : ℤ). IsAnswer start_from (StandsListed (λ _ _ _. ⊥) (λ _. Unit {0}) c.args.self.now.guests) (StandsListed (λ _ _ _. ⊥) (λ _. Unit {0}) c.answer.new.self) (request c.args.call.now) r c.answer.new.out.bytes) (sym back)
-    (listed_answer (λ _ _ _. ⊥) (λ _. Unit {0}) c.args.self.now.guests c.answer.new.self (request c.args.call.now) c.answer.result c.answer.new.out.bytes c.answer.ensures.over c.answer.ensures.came c.answer.ensures.answer)
+    (listed_answer (λ _ _ _. ⊥) (λ _. Unit {0}) c.args.self.now.guests c.answer.new.self (request c.args.call.now) c.answer.result c.answer.new.out.bytes c.answer.ensures.over c.answer.ensures.came c.answer.ensures.kept c.answer.ensures.answer)
