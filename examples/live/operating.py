@@ -6,6 +6,7 @@
 The service is keeper.c behind ../../service/varan-listen. It counts the requests of all clients, so one that is lost or done twice shows; so does loop.c, which serves all at once; dated.s tells
 the time. Each row that doesn't hold is printed; the last line has how many there were, how many were wrong, and the longest wait of a client. Status 1 where one was wrong.
 """
+import contextlib
 import os
 import pathlib
 import re
@@ -32,7 +33,9 @@ PAUSE, PAUSES = 0.05, 4
 ENDLESS, LET_GO = ["--idle", "0"], 4
 # Nanoseconds: a second, and how long ago the time may have been told that a client gets.
 SECOND, TIME_STEP = 1_000_000_000, 1_000_000
-MOST_WRITTEN = 1_048_576
+# What form 4 lets a run write to a client, and what may wait for one to read it.
+MOST_OF_FORM_4, MOST_UNREAD = 1_048_576, 16_777_216
+SMALL = 4096
 LONG = "x" * 1900
 # A command that stands still, before it is the program, while there is a file `hold` beside it.
 HELD = """#!/bin/sh
@@ -95,10 +98,14 @@ def is_still(process):
 
 
 class Connection:
-    """A client that asks a line and waits for its answer."""
+    """A client that asks a line and waits for its answer. The system keeps so many bytes for it that it hasn't read, if a number is given."""
 
-    def __init__(self, port):
-        self.socket = socket.create_connection(("127.0.0.1", port), SECONDS)
+    def __init__(self, port, room=None):
+        self.socket = socket.socket()
+        self.socket.settimeout(SECONDS)
+        if room is not None:
+            self.socket.setsockopt(socket.SOL_SOCKET, socket.SO_RCVBUF, room)
+        self.socket.connect(("127.0.0.1", port))
         self.lines = self.socket.makefile("r")
         self.begun = time.monotonic()
 
@@ -731,6 +738,7 @@ def one_loop(rows, program):
 
     silent = service.connect()
     rows.same(service.ask("get colour"), ["green"], "the next client beside a silent one")
+    rows.holds(is_shown(service, "end 0"), "the end of a client that the server let go is told", "it isn't")
     os.kill(service.serving(), signal.SIGKILL)
     is_let_go(rows, silent, "a silent client of a command that is killed")
     silent = service.connect()
@@ -828,15 +836,20 @@ def full_transcript(rows, program):
 
 
 def cut_answers(rows, program):
-    """A client gets all that a run writes to a client, and one is in the middle of its answers where the run comes to its limit of calls."""
-    service = Service(program, KEEPER[1])
+    """A client gets whatever a run writes to it, unless it reads nothing; and one is in the middle of its answers where the run comes to its limit of calls."""
+    service = Service(program, KEEPER[1], options=PATIENT)
     client = service.connect()
     rows.same(client.ask(f"put a {LONG}"), ["kept"], "a long value")
-    client.send(*["get a"] * 560)
-    rows.same(received(client), (MOST_WRITTEN - len("kept\n"), True), "bytes to a client, and whether it is reset")
-    rows.holds("client 0 got 1,048,576 bytes" in service.notes(), "the operator is told of it", service.notes())
+    count = MOST_OF_FORM_4 // len(LONG) + 10
+    client.send(*["get a"] * count)
+    rows.same(received(client), (count * len(f"{LONG}\n"), False), "bytes to a client, and whether it is reset")
+    client = Connection(service.port, SMALL)
+    client.send(*["get a"] * (2 * MOST_UNREAD // len(LONG)))
+    told = f"client 1 has more than {MOST_UNREAD:,} bytes to read, and is reset"
+    until(lambda: told in service.notes(), "the operator is told of a client that doesn't read")
+    rows.holds(received(client)[1], "a client that doesn't read is reset", "it isn't")
     rows.same(service.ask("get a"), [LONG], "the next client")
-    rows.same(service.end(), 0, "the status, with a client that was written its limit")
+    rows.same(service.end(), 0, "the status, with a client that was reset")
 
     service = Service(program, KEEPER[1], words=["--calls", "100"])
     client = service.connect()
@@ -853,7 +866,8 @@ def cut_answers(rows, program):
 
 def received(client):
     """How many bytes a client gets, and whether its connection is reset then."""
-    client.socket.shutdown(socket.SHUT_WR)
+    with contextlib.suppress(OSError):  # (it may be reset already)
+        client.socket.shutdown(socket.SHUT_WR)
     size = 0
     try:
         while piece := client.socket.recv(65536):

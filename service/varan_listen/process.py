@@ -7,7 +7,7 @@ import os
 import signal
 import time
 
-from varan_listen.streams import note
+from varan_listen.streams import Lines, note
 from varan_listen.transcript import Transcript
 from varan_listen.written import Written
 
@@ -27,8 +27,9 @@ def end_with_parent():
 class Process:
     """It is told what came to its run, and the operator's words `hand`, each at its place of what came; and what it says is heard."""
 
-    def __init__(self, process, lineup, transcript, written, is_behind):
-        self.process, self.lineup, self.transcript, self.written, self.is_behind = process, lineup, transcript, written, is_behind
+    def __init__(self, process, lineup, transcript, said, written, is_behind):
+        self.process, self.lineup, self.transcript, self.is_behind = process, lineup, transcript, is_behind
+        self.said, self.written = said, written
         self.versions, self.hands = lineup.versions, lineup.hands
         self.begun = self.arrived = time.monotonic()
         self.fed = self.heard = self.heard_lines = 0  # bytes of what came, bytes and lines of what it said
@@ -40,18 +41,19 @@ class Process:
     async def begin(cls, command, lineup, transcript, is_behind):
         """Begins the command, in a session of its own, so that Ctrl-C ends varan-listen alone. SIGXFSZ stays ignored in it, as in Python: a file of the most size is a failed write then."""
         file = os.open(transcript, os.O_WRONLY | os.O_CREAT | os.O_EXCL, 0o666) if transcript else os.dup(2)
-        reader, writer = os.pipe()
+        (said, saying), (written, writing) = os.pipe(), os.pipe()
         try:
             process = await asyncio.create_subprocess_exec(
-                *command, stdin=asyncio.subprocess.PIPE, stdout=asyncio.subprocess.PIPE, stderr=writer,
+                *command, stdin=asyncio.subprocess.PIPE, stdout=saying, stderr=writing,
                 start_new_session=True, restore_signals=False, preexec_fn=end_with_parent)
         except OSError:
-            os.close(reader)
-            os.close(file)
+            for it in (said, written, file):
+                os.close(it)
             raise
         finally:
-            os.close(writer)
-        return cls(process, lineup, Transcript(transcript, len(lineup.versions)), Written(reader, file), is_behind)
+            os.close(saying)
+            os.close(writing)
+        return cls(process, lineup, Transcript(transcript, len(lineup.versions)), Lines(said), Written(written, file), is_behind)
 
     def write(self, piece):
         if not self.process.stdin.is_closing():
@@ -90,6 +92,10 @@ class Process:
         if self.fed + len(line) == told.size:
             self.fed = told.size
             self.write(line)
+
+    def is_full(self):
+        """Whether it has much to take yet."""
+        return not self.feeding.done() or self.process.stdin.transport.get_write_buffer_size() > AT_ONCE
 
     async def drain(self):
         """Waits until it has taken about all that it was told. One that was killed takes nothing more."""

@@ -4,16 +4,19 @@ What the guests say follows from what came. So a process that is told all that c
 """
 import asyncio
 import contextlib
+import itertools
 import signal
 import time
 
 from varan_listen.past import Past
 from varan_listen.process import Joining, Process
-from varan_listen.streams import MOST_WRITTEN, PATIENCE, note
+from varan_listen.streams import MOST_UNREAD, PATIENCE, note
 from varan_listen.written import SECOND
 
 # Bytes of an arrival, as many as a script may say.
 MOST_BYTES = 2000
+# Lines of a transcript that are taken at once.
+LINES_AT_ONCE = 1000
 # How often in a row a command that was killed is begun anew without having said more.
 MOST_TRIES = 3
 # Nanoseconds: the step of the time that is told; and the latest time that a line can tell, of the year 2106.
@@ -40,20 +43,22 @@ class Run:
         self.count = self.gone = 0  # of the clients that came, and of those that came to a run which this one goes on with
         self.is_past = False  # what the guests say was said in that run
         self.waiting, self.accepted, self.accepts = {}, {}, 0
-        self.senders, self.closers, self.tasks = {}, set(), []
+        self.silences = {}  # of the clients that haven't sent all, what looks whether they are silent too long
+        self.closers, self.tasks = set(), set()
+        self.closed = []  # by the guests, before they sent all; their ends are still to be told
         self.takes = True  # clients may come
         self.is_asked_to_end = self.has_accepted = False
 
     # ---- processes
 
-    def resume(self, arrivals, count):
-        """Goes on with a run to which this came from so many clients, who have left since."""
-        for line in arrivals:
-            self.told.add(line)
-            if line.startswith(b"time "):
-                seconds, nanos = map(int, line.split()[1:])
-                self.time = max(self.time, seconds * SECOND + nanos)
-        self.count = self.gone = count
+    def resume(self, left):
+        """Goes on with the run that left this transcript, and whose clients have left since."""
+        arrivals = left.arrivals()
+        while lines := list(itertools.islice(arrivals, LINES_AT_ONCE)):
+            self.told.add(b"".join(lines))
+            times = (line.split() for line in lines if line.startswith(b"time "))
+            self.time = max([self.time, *(int(seconds) * SECOND + int(nanos) for _, seconds, nanos in times)])
+        self.count = self.gone = left.count
         self.is_past = True
 
     async def start(self, lineup):
@@ -64,18 +69,33 @@ class Run:
     def follow(self, process):
         process.written.follow(lambda: self.wait(process), lambda: self.look(process))
         process.feeding = asyncio.create_task(process.feed(self.told))
-        self.tasks.append(asyncio.create_task(self.hear(process)))
+        process.said.follow(lambda lines: self.hear(process, lines))
 
-    async def hear(self, process):
-        """Takes what a process says, to its end. The process was killed where a line is cut off."""
+    @staticmethod
+    def work(coroutine, tasks):
+        """A task that stands among these until it is done."""
+        task = asyncio.create_task(coroutine)
+        tasks.add(task)
+        task.add_done_callback(tasks.discard)
+
+    def hear(self, process, lines):
+        """Takes lines that a process says, to its end, or until another one serves in its place."""
+        is_over = not lines
         try:
-            async for line in process.process.stdout:
-                process.written.take()
-                if process not in (self.serving, self.joining) or not line.endswith(b"\n"):
+            process.written.take()
+            for line in lines:
+                if process not in (self.serving, self.joining):
                     break
                 self.take(process, line)
-        except Exception as fault:  # whatever it is: nobody would hear the process any more
+        except Exception as fault:  # whatever it is: what the process says next is worth nothing
             process.end(str(fault) or repr(fault))
+            is_over = True
+        if is_over or process not in (self.serving, self.joining):
+            process.said.close()
+            self.work(self.until_ended(process), self.tasks)
+
+    async def until_ended(self, process):
+        """What follows the end of a process."""
         status = await process.process.wait()
         process.written.close()
         if process is self.joining:
@@ -158,7 +178,7 @@ class Run:
         return self.tries <= MOST_TRIES and self.can_catch_up()
 
     def can_catch_up(self):
-        return self.told.is_whole and self.said.is_whole
+        return self.told.write() and self.said.write()
 
     # ---- a process that joins
 
@@ -171,13 +191,14 @@ class Run:
             self.is_joining = False
             raise
         self.follow(self.joining)
-        self.tasks.append(asyncio.create_task(self.settle(self.joining)))
+        self.work(self.settle(self.joining), self.tasks)
         return self.joining
 
     async def settle(self, process):
         """Looks at a process that joins until it serves or is given up."""
         arrived, nearer, least = None, time.monotonic(), None
         while process is self.joining:
+            process.transcript.learn()  # (a little at a time)
             now, behind = time.monotonic(), self.told.size - process.fed + max(self.said.size - process.heard, 0)
             if least is None or behind < least:
                 nearer, least = now, behind
@@ -209,16 +230,17 @@ class Run:
 
     # ---- clients
 
-    def tell(self, line):
+    def tell(self, *lines):
         """Tells what came, and before it the time, unless that was told less than a step ago. A host's clock that is set back tells no time until it is later again."""
         now = min(time.time_ns(), MOST_TIME)
         if now - self.time >= TIME_STEP:
-            self.tell_time(now)
-        self.tell_line(line)
+            lines = self.line_of(now), *lines
+        self.tell_lines(*lines)
 
-    def tell_time(self, now):
+    def line_of(self, now):
+        """The line that tells this time."""
         self.time = now
-        self.tell_line(f"time {now // SECOND} {now % SECOND}")
+        return f"time {now // SECOND} {now % SECOND}"
 
     def wait(self, process):
         """A call of the process waits up to a time, which is told then: also where the host's clock is set back meanwhile. One that was told later ends the wait once the process takes it:
@@ -229,18 +251,21 @@ class Run:
         self.stop_waiting()
         if wait >= self.time:
             left = wait - max(time.time_ns(), self.time)
-            self.timer = asyncio.get_running_loop().call_later(left / SECOND, lambda: self.tell_time(min(max(time.time_ns(), wait), MOST_TIME)))
+            self.timer = asyncio.get_running_loop().call_later(left / SECOND, lambda: self.tell_lines(self.line_of(min(max(time.time_ns(), wait), MOST_TIME))))
 
     def stop_waiting(self):
         if self.timer is not None:
             self.timer.cancel()
 
-    def tell_line(self, line):
-        line = line.encode() + b"\n"
-        self.told.add(line)
-        self.counts.came[line.split()[0].decode()] += 1
+    def tell_lines(self, *lines):
+        """Tells lines, and before them the ends of clients that the guests have closed since the ones before: no call waits for these."""
+        lines = [*(f"end {number}" for number in self.closed), *lines]
+        self.closed.clear()
+        piece = "".join(f"{line}\n" for line in lines).encode()
+        self.told.add(piece)
+        self.counts.came.update(line.partition(" ")[0] for line in lines)
         for process in filter(None, (self.serving, self.joining)):
-            process.tell(line, self.told)
+            process.tell(piece, self.told)
 
     def hand(self):
         """The operator says that the leader gives up the lead."""
@@ -257,49 +282,72 @@ class Run:
             self.takes, self.is_asked_to_end = False, True
             self.tell("end clients")
 
-    async def send_on(self, number):
-        """Tells what the client sends, to its end. What it sends before it is accepted stays where it is."""
-        reader = self.accepted[number].reader
-        with contextlib.suppress(OSError):
-            while piece := await self.read(reader):
-                self.counts.received += len(piece)
-                self.tell(f"data {number} {piece.hex()}")
-                await self.serving.drain()
-        self.tell(f"end {number}")
-
-    async def read(self, reader):
-        """What a client sends next; nothing at its end, or where it is silent too long. The time in which a process catches up doesn't count: the client may wait for an answer.
-        Where clients may be silent, none may any more once no more come."""
-        while True:
-            try:
-                return await asyncio.wait_for(reader.read(MOST_BYTES), self.patience)
-            except asyncio.TimeoutError:
-                if reader.exception() or ((self.idle or not self.takes) and self.serving.has_served(self.patience)):
-                    return b""
-
     def accept(self, number):
         self.accepts = number + 1
         if number >= self.gone:
             self.is_past, self.has_accepted = False, True
-            self.accepted[number] = self.waiting.pop(number)
-            self.senders[number] = asyncio.create_task(self.send_on(number))
+            client = self.accepted[number] = self.waiting.pop(number)
+            self.silences[number] = asyncio.get_running_loop().call_later(self.patience, self.end_silent, number)
+            self.hear_client(number, client)
+
+    def hear_client(self, number, client):
+        client.hear(lambda piece: self.take_from(number, client, piece))
+
+    def take_from(self, number, client, piece):
+        """Tells what a client sends, or its end. A process that has much to take yet gets no more meanwhile."""
+        if not piece:
+            self.end_client(number, client)
+            return
+        self.counts.received += len(piece)
+        self.tell(*(f"data {number} {piece[at : at + MOST_BYTES].hex()}" for at in range(0, len(piece), MOST_BYTES)))
+        if self.serving.is_full():
+            client.rest()
+            self.work(self.hear_later(number, client), self.tasks)
+
+    async def hear_later(self, number, client):
+        await self.serving.drain()
+        if number in self.silences:
+            self.hear_client(number, client)
+
+    def end_client(self, number, client):
+        """A client has sent all."""
+        client.rest()
+        if silence := self.silences.pop(number, None):
+            silence.cancel()
+            self.tell(f"end {number}")
+
+    def end_silent(self, number):
+        """Looks whether a client has been silent too long, and so has sent all. The time in which a process catches up doesn't count: the client may wait for an answer.
+        Where clients may be silent, none may any more once no more come."""
+        client = self.accepted[number]
+        left = client.heard + self.patience - client.loop.time()
+        if left <= 0 and client.heed and (self.idle or not self.takes) and self.serving.has_served(self.patience):
+            self.end_client(number, client)
+        else:
+            self.silences[number] = client.loop.call_later(left if left > 0 else self.patience, self.end_silent, number)
 
     def send(self, number, piece):
         if number >= self.gone:
+            client = self.accepted[number]
             self.counts.sent += len(piece)
-            self.accepted[number].send(piece)
+            client.send(piece)
+            if len(client.unsent) > MOST_UNREAD:
+                note(f"client {number} has more than {MOST_UNREAD:,} bytes to read, and is reset")
+                client.reset()
+                self.end_client(number, client)
 
     def close(self, number, is_cut=False):
         if number < self.gone:
             return
-        self.senders.pop(number).cancel()
+        if silence := self.silences.pop(number, None):
+            silence.cancel()
+            self.closed.append(number)
         client = self.accepted.pop(number)
-        if client.got >= MOST_WRITTEN:
-            is_cut = True
-            note(f"client {number} got {client.got:,} bytes, the most that a run writes to a client, and is reset")
-        closer = asyncio.create_task(client.cut(self.patience) if is_cut else client.close(self.patience))
-        self.closers.add(closer)
-        closer.add_done_callback(self.closers.discard)
+        if is_cut:
+            self.work(client.cut(self.patience), self.closers)
+        elif not (gone := client.close(self.patience)).done():
+            self.closers.add(gone)
+            gone.add_done_callback(self.closers.discard)
 
     def do(self, word, *fields):
         """Does what a line of the command says."""
@@ -349,6 +397,8 @@ class Run:
         """Each second: a command that was begun anew says how far it is; and each client that was accepted has to stand in the transcript."""
         while True:
             await asyncio.sleep(1)
+            self.told.write()
+            self.said.write()
             process, accepts = self.serving, self.accepts
             self.tell_news(process)
             if not self.has_caught_up(process):

@@ -1,5 +1,6 @@
 """The runs of a command, one after the other."""
 import asyncio
+import collections
 import os
 import time
 
@@ -23,7 +24,8 @@ class Service:
         self.script = files.script_at(given.script)
         self.versions = self.named()  # of the next run
         self.run = None  # the one that clients come to
-        self.endings = []  # of each run, a task that comes to its status
+        self.endings = collections.deque()  # of each run that hasn't ended, and those behind it, a task that comes to its status
+        self.status = 0  # of the last run before these that failed
         self.turn = asyncio.Lock()  # one client at a time comes to a run
         self.over = asyncio.Event()
         self.failed = self.is_ending = False
@@ -44,12 +46,12 @@ class Service:
         command = [*self.given.head[:at], *begun.script.words(), *self.given.head[at:], *(it.copy for it in begun.versions)]
         return await kind.begin(command, begun, transcript, is_behind)
 
-    async def resume(self, script, arrivals, count):
-        """Begins with a run that goes on with another one's arrivals, of so many clients, and its hand-overs. A run after it has none of those."""
-        script = self.files.script(script)
+    async def resume(self, left):
+        """Begins with a run that goes on with the arrivals and the hand-overs of the one that left this transcript. A run after it has none of those."""
+        script = self.files.script(left.script)
         self.script = self.files.without(script, script.lengths())
         run = self.new_run()
-        run.resume(arrivals, count)
+        run.resume(left)
         await self.start(run, Lineup(self.versions, script))
 
     def new_run(self):
@@ -58,7 +60,13 @@ class Service:
     async def start(self, run, begun):
         await run.start(begun)
         self.run = run
+        self.take_statuses()
         self.endings.append(asyncio.create_task(self.follow(run)))
+
+    def take_statuses(self):
+        """Of the runs that have ended no more is kept than the status of the last one that failed."""
+        while self.endings and self.endings[0].done() and not self.endings[0].exception():
+            self.status = self.endings.popleft().result() or self.status
 
     async def begin(self):
         """Begins the run that clients come to from now on."""
@@ -74,17 +82,24 @@ class Service:
 
     # ---- clients
 
+    def place_at_once(self, client):
+        """Gives a client to the run that takes clients, if nobody comes before it and no run has to begin. Whether it is so."""
+        is_free = not self.turn.locked() and self.run.takes and self.given.each is None
+        if is_free:
+            self.run.connect(client)
+        return is_free
+
     async def place(self, client):
-        """Gives a client to the run that takes clients. The next one begins before this one gets its last."""
+        """Gives a client to the run that takes clients. The next one begins before this one gets its last, where so many are a run's."""
         if not self.run.takes:
             await self.begin()
-        run = self.run
-        if run.count + 1 >= self.given.each and not self.is_ending:
+        run, each = self.run, self.given.each
+        if each and run.count + 1 >= each and not self.is_ending:
             await self.begin()
         run.connect(client)
         # (a run of few clients is meant to end soon)
-        if run.count == self.given.each * 9 // 10 >= 100:
-            note(f"{run.count:,} of {self.given.each:,} clients have come to this run: the one after it begins without its state")
+        if each and run.count == each * 9 // 10 >= 100:
+            note(f"{run.count:,} of {each:,} clients have come to this run: the one after it begins without its state")
         if run is not self.run:
             run.end_clients()
 
@@ -144,8 +159,8 @@ class Service:
         async with self.turn:
             self.is_ending = True
             self.run.end_clients()
-        status = 0
-        for ending in self.endings:
-            status = await ending or status
+        while self.endings:
+            await self.endings[0]
+            self.take_statuses()
         await self.console.close(self.patience)
-        return status or (UNWRITTEN if self.console.failed else UNBEGUN if self.failed else 0)
+        return self.status or (UNWRITTEN if self.console.failed else UNBEGUN if self.failed else 0)

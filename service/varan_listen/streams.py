@@ -1,7 +1,6 @@
 """The streams of varan-listen: connections, standard output, and what is said to the operator."""
 import asyncio
 import contextlib
-import dataclasses
 import fcntl
 import os
 import queue
@@ -11,11 +10,13 @@ import sys
 import termios
 import threading
 
-from varan_listen.metrics import Counts
-
-# Bytes that a run writes to a client at most, and bytes of the console that may wait to be read.
-MOST_WRITTEN = 1_048_576
+# Bytes that may wait to be read: by a client, beside what the system keeps for it, and of the console.
+MOST_UNREAD = 16_777_216
 MOST_WAITING = 262_144
+# A pipe holds no more, so one read takes all that is there.
+PIPE = 65_536
+# Bytes of a client that are taken at once; connections that wait to be taken; and seconds until one is tried again that couldn't be.
+MOST_TAKEN, BACKLOG, RETRY = 64_000, 100, 1
 # Seconds in which what was written is taken at the end, where clients may be silent as long as they like.
 PATIENCE = 10
 
@@ -34,47 +35,176 @@ def keep_standard_streams():
     return sys.stdout is not None
 
 
-@dataclasses.dataclass(eq=False)
 class Client:
-    """A connection, and the guest's port that it is for."""
+    """A connection, and the guest's port that it is for. It is heard once a run has accepted it: what it sends before that stays where it is."""
 
-    port: int
-    counts: Counts
-    reader: asyncio.StreamReader
-    writer: asyncio.StreamWriter
-    got: int = 0  # bytes
-    was_left: bool = False  # by a run that accepted nobody
+    def __init__(self, connection, port, counts):
+        self.connection, self.port, self.counts = connection, port, counts
+        self.number = connection.fileno()  # (the loop would look at a socket's addresses each time)
+        self.loop = asyncio.get_running_loop()
+        self.heed = None  # what is done with what comes
+        self.heard = self.loop.time()  # when something came last, or it was heard again
+        self.unsent = bytearray()
+        self.is_lost = False
+        self.closing = None  # what closes it where not all is sent in time
+        self.was_left = False  # by a run that accepted nobody
+        self.gone = self.loop.create_future()
+        counts.connections += 1
 
-    def __post_init__(self):
-        self.counts.connections += 1
+    def hear(self, heed):
+        """From now on this is done with what comes, and with nothing at the end."""
+        self.heed, self.heard = heed, self.loop.time()
+        self.loop.add_reader(self.number, self.take)
+
+    def rest(self):
+        """It isn't heard for a time, or any more."""
+        if self.heed is not None:
+            self.heed = None
+            self.loop.remove_reader(self.number)
+
+    def take(self):
+        try:
+            piece = self.connection.recv(MOST_TAKEN)
+        except (BlockingIOError, InterruptedError):
+            return
+        except OSError:
+            piece = b""
+        self.heard = self.loop.time()
+        self.heed(piece)
 
     def send(self, piece):
-        """Sends this, or drops it where the client has left. A run says a megabyte at most to a client, so one that doesn't read takes no more memory."""
-        self.got += len(piece)
-        if not self.writer.is_closing():
-            self.writer.write(piece)
+        """Sends this, or drops it where the client has left."""
+        if self.unsent:
+            self.unsent += piece
+        elif not self.is_lost and (rest := piece[self.sent_of(piece) :]):
+            self.unsent += rest
+            self.loop.add_writer(self.number, self.send_on)
 
-    async def close(self, patience):
-        """Closes the connection once all is sent, or after so many seconds."""
-        self.writer.close()
+    def sent_of(self, piece):
+        """How many bytes of this are sent now: all of one who has left."""
         try:
-            await asyncio.wait_for(self.writer.wait_closed(), patience)
-        except (OSError, asyncio.TimeoutError):
-            self.writer.transport.abort()
-        self.counts.connections -= 1
+            return self.connection.send(piece)
+        except (BlockingIOError, InterruptedError):
+            return 0
+        except OSError:
+            self.is_lost = True
+            return len(piece)
+
+    def send_on(self):
+        del self.unsent[: self.sent_of(self.unsent)]
+        if not self.unsent:
+            self.loop.remove_writer(self.number)
+            if self.closing:
+                self.shut()
+
+    def close(self, patience):
+        """Closes the connection once all is sent, or after so many seconds. It is gone then."""
+        self.rest()
+        if self.unsent:
+            self.closing = self.loop.call_later(patience, self.shut)
+        else:
+            self.shut()
+        return self.gone
 
     async def cut(self, patience):
-        """Resets the connection once the client has all that was sent, or after so many seconds. So a client can tell an answer that was cut from one that ended."""
-        connection = self.writer.get_extra_info("socket")
+        """Resets the connection once the client has all that was sent, or closes it after so many seconds. So a client can tell an answer that was cut from one that ended."""
+        self.rest()
         with contextlib.suppress(OSError, ValueError, asyncio.TimeoutError):
-            await asyncio.wait_for(self.until_sent(connection), patience)
-            connection.setsockopt(socket.SOL_SOCKET, socket.SO_LINGER, struct.pack("ii", 1, 0))
-        self.writer.transport.abort()
-        self.counts.connections -= 1
+            await asyncio.wait_for(self.until_sent(), patience)
+            self.linger_not()
+        self.shut()
 
-    async def until_sent(self, connection):
-        while self.writer.transport.get_write_buffer_size() or any(fcntl.ioctl(connection.fileno(), termios.TIOCOUTQ, bytes(4))):
+    async def until_sent(self):
+        while self.unsent or any(fcntl.ioctl(self.connection.fileno(), termios.TIOCOUTQ, bytes(4))):
             await asyncio.sleep(0.01)
+
+    def reset(self):
+        """Resets the connection, whatever the client has still to read."""
+        with contextlib.suppress(OSError):
+            self.linger_not()
+        self.shut()
+
+    def linger_not(self):
+        self.connection.setsockopt(socket.SOL_SOCKET, socket.SO_LINGER, struct.pack("ii", 1, 0))
+
+    def shut(self):
+        if self.gone.done():
+            return
+        self.rest()
+        if self.closing:
+            self.closing.cancel()
+        if self.unsent:
+            self.loop.remove_writer(self.number)
+            self.unsent.clear()
+        self.connection.close()
+        self.is_lost = True
+        self.counts.connections -= 1
+        self.gone.set_result(None)
+
+
+class Listener:
+    """Takes the connections to a port."""
+
+    def __init__(self, connection, come):
+        self.connection, self.come = connection, come
+        self.loop = asyncio.get_running_loop()
+        connection.setblocking(False)
+        connection.setsockopt(socket.IPPROTO_TCP, socket.TCP_NODELAY, 1)  # (each that is taken has it from here)
+        self.listen()
+
+    @classmethod
+    async def all_at(cls, address, port, come):
+        """Those of each address that this name has."""
+        found = await asyncio.get_running_loop().getaddrinfo(address or None, port, type=socket.SOCK_STREAM, flags=socket.AI_PASSIVE)
+        return [cls(socket.create_server(it[4], family=it[0], backlog=BACKLOG), come) for it in found]
+
+    def listen(self):
+        if self.connection.fileno() >= 0:
+            self.loop.add_reader(self.connection, self.take)
+
+    def take(self):
+        try:
+            connection, _ = self.connection.accept()
+        except (BlockingIOError, InterruptedError, ConnectionAbortedError):
+            return
+        except OSError as fault:
+            # (there may be too many connections)
+            note(f"a client has to wait: {fault.strerror}")
+            self.loop.remove_reader(self.connection)
+            self.loop.call_later(RETRY, self.listen)
+            return
+        connection.setblocking(False)
+        self.come(connection)
+
+    def close(self):
+        self.loop.remove_reader(self.connection)
+        self.connection.close()
+
+
+class Lines:
+    """What comes over a pipe, line by line."""
+
+    def __init__(self, reader):
+        self.reader = reader
+        self.rest = b""  # the beginning of a line that isn't whole; it never is where a process was killed
+        os.set_blocking(reader, False)
+
+    def follow(self, heed):
+        """From now on this is done with lines that come, and with none at the end."""
+        asyncio.get_running_loop().add_reader(self.reader, self.take, heed)
+
+    def take(self, heed):
+        try:
+            piece = os.read(self.reader, PIPE)
+        except BlockingIOError:
+            return
+        *lines, self.rest = (self.rest + piece).split(b"\n")
+        if lines or not piece:
+            heed([line + b"\n" for line in lines])
+
+    def close(self):
+        asyncio.get_running_loop().remove_reader(self.reader)
+        os.close(self.reader)
 
 
 class Console:

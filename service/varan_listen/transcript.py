@@ -4,7 +4,7 @@ import re
 
 ARRIVALS = (b"connect", b"data", b"end", b"line", b"input", b"time")
 # An end of these is what the run was told when varan-listen ended. A run that goes on isn't.
-OVER = (b"end clients", b"end input")
+OVER = (b"end clients\n", b"end input\n")
 # The transcript of a process that hasn't caught up has this at the end of its name: it lacks something that came.
 BEHIND = ".behind"
 SAID = re.compile(rb"(?m)^(?:(connect) \d+|hand (\d+)|# (\d+ of \d+ calls are made)|# version (\d) (?:leads from event (\d+)|rewrites (\d+) at .*|ended: (.*)))$")
@@ -12,6 +12,8 @@ LIMITS = ("fault calls", "fault budget")
 # The lines behind the one that tells why the process ended, and bytes that have them all.
 UNTAKEN = b"# not taken: "
 TAIL = 1_048_576
+# Bytes that are read at once: a process that has caught up has written all that came to its run.
+PIECE = 1_048_576
 
 
 class Transcript:
@@ -33,10 +35,12 @@ class Transcript:
 
     def learn(self):
         """Reads what it says since the last time."""
-        if self.reader is None:
-            return
-        whole, _, self.rest = (self.rest + self.reader.read()).rpartition(b"\n")
-        for connect, hand, made, number, event, rewrites, end in SAID.findall(whole):
+        while self.reader is not None and (piece := self.reader.read(PIECE)):
+            whole, _, self.rest = (self.rest + piece).rpartition(b"\n")
+            self.learn_from(whole)
+
+    def learn_from(self, lines):
+        for connect, hand, made, number, event, rewrites, end in SAID.findall(lines):
             if connect:
                 self.connects += 1
             elif hand:
@@ -121,12 +125,31 @@ class Transcript:
             self.reader = None
 
 
-def read_transcript(path):
-    """The script of a transcript, with its hand-overs; the arrivals that came in it, with the end of each client that was connected; and how many clients there were."""
-    lines = [line for line in path.read_bytes().split(b"\n")[:-1] if line and not line.startswith(b"#")]
-    came = [line for line in lines if line.split()[0] in ARRIVALS and line not in OVER]
-    script = [line for line in lines if line.split()[0] not in ARRIVALS]
-    count = sum(line.startswith(b"connect ") for line in came)
-    ended = {line for line in came if line.startswith(b"end ")}
-    came += [end for end in (b"end %d" % number for number in range(count)) if end not in ended]
-    return b"".join(line + b"\n" for line in script), [line + b"\n" for line in came], count
+class Left:
+    """The transcript that a run left. It may be long, so that no more of it is kept than its script, with its hand-overs, and who was connected at its end."""
+
+    def __init__(self, path):
+        self.path = path
+        self.count = 0  # of the clients
+        self.going = {}  # the ends of those that hadn't sent all
+        script = []
+        for line in self.lines():
+            word, *fields = line.split()
+            if word not in ARRIVALS:
+                script.append(line)
+            elif word == b"connect":
+                self.going[self.count] = b"end %d\n" % self.count
+                self.count += 1
+            elif word == b"end" and fields and fields[0].isdigit():
+                self.going.pop(int(fields[0]), None)
+        self.script = b"".join(script)
+
+    def lines(self):
+        """Its lines, but for comments and for one that is cut off."""
+        with open(self.path, "rb") as file:
+            yield from (line for line in file if line.strip() and line.endswith(b"\n") and not line.startswith(b"#"))
+
+    def arrivals(self):
+        """What came in it, with the end of each client that was connected."""
+        yield from (line for line in self.lines() if line.split()[0] in ARRIVALS and line not in OVER)
+        yield from self.going.values()

@@ -4,10 +4,9 @@ import contextlib
 import os
 import re
 
+from varan_listen.streams import PIPE
 from varan_listen.transcript import ARRIVALS
 
-# A pipe holds no more, so one read takes all that is there.
-PIPE = 65_536
 SECOND = 1_000_000_000
 WAIT = re.compile(rb"(?m)^# wait (\d+) (\d+)\n")
 
