@@ -79,6 +79,17 @@ expected() {
     done) expected | awk -v without=" $* " '/^== /{is_shown = index(without, " " $2 " ") == 0} is_shown'
 }
 
+# aborted CC WORD..: a checked guest that aborts, and one whose assert fails, where the plain one exits: it breaks, and that isn't taken for an error that was found.
+aborted() {
+    local way
+    for way in 'abort()' 'assert(words == 0)'; do
+        printf '%s\n' '#include <assert.h>' '#include <stdlib.h>' "int main(int words, char **all) { (void)all; if (words) WAY; return 0; }" >"$work/aborts.c"
+        "$@" '-DWAY=return 0' "$work/aborts.c" -o "$work/plain"
+        "$1" --checked "${@:2}" "-DWAY=$way" "$work/aborts.c" -o "$work/checked"
+        is "$(said "$work/no_words" | sed 's/count [0-9]* //;s/100 .*/100/')" "at seen 0 fault breakpoint 100" "what is said of $way, $1"
+    done
+}
+
 echo varan-script 1 >"$work/no_words"
 build $guests/cc $guests/heap.c
 beside $guests/scripts/heap '3 seen 9'
@@ -98,6 +109,8 @@ done
 CHECKED_MEMORY=1048576 build $guests/cc churn.c
 beside "$work/no_words" '0 seen 2'
 
+aborted $guests/cc
+
 build $guests/cc -Wno-use-after-free errors.c
 # picolibc's own accesses aren't looked into
 is "$(errors number)" "$(expected number)" "errors.c over picolibc"
@@ -114,6 +127,7 @@ libc=$guests/libc
 if [ -e $libc/out/checked/lib/libguest.a ]; then
     CHECKED_MEMORY=1048576 build $libc/cc -Os -g churn.c
     beside "$work/no_words" '0 seen 3'
+    aborted $libc/cc -Os -g
     build $libc/cc -Os -g -w errors.c
     # musl's free breaks by itself at what isn't an object, and gives memory back
     is "$(errors freed twice inside)" "$(expected freed twice inside)" "errors.c over $libc"

@@ -10,8 +10,10 @@
 #include "unix.h"
 #include <errno.h>
 #include <fcntl.h>
+#include <signal.h>
 #include <stdint.h>
 #include <stdio.h>
+#include <stdlib.h>
 #include <sys/time.h>
 #include <sys/times.h>
 #include <sys/types.h>
@@ -263,4 +265,29 @@ int getpid(void)
 int kill(int process, int signal)
 {
     return answer(call(KILL, process, signal, 0, 0, 0));
+}
+
+/* ---- a program that gives itself up. picolibc's own ends by exit, with which a service is over; an EBREAK is a fault, after which the next version leads. */
+
+/* A program may have one of its own. */
+#define WEAK __attribute__((weak))
+
+/* The handler of SIGABRT is called first, and may not come back. What the streams hold isn't written, as under Linux. */
+WEAK void abort(void)
+{
+    void (*handler)(int) = signal(SIGABRT, SIG_DFL);
+    if (handler != SIG_DFL && handler != SIG_IGN && handler != SIG_ERR)
+        handler(SIGABRT);
+    __builtin_trap();
+}
+
+/* A failed assert. Nothing is written: a call that no other version makes would end all that follow. The arguments are in a0 to a3. */
+WEAK void __assert_func(const char *file, int line, const char *function, const char *expression)
+{
+    register const char *a0 __asm__("a0") = file;
+    register int a1 __asm__("a1") = line;
+    register const char *a2 __asm__("a2") = function;
+    register const char *a3 __asm__("a3") = expression;
+    __asm__ volatile("ebreak" : : "r"(a0), "r"(a1), "r"(a2), "r"(a3));
+    __builtin_unreachable();
 }

@@ -11,8 +11,10 @@ fi
 made=$(mktemp -d)
 trap 'rm -rf "$made"' EXIT
 status=0
-for built in keeper_1 keeper_2 keeper_3 loop_1 loop_2; do
-    ../guests/cc -s "${built%_*}.c" "../guests/store_${built#*_}.c" -o "$made/$built"
+for built in keeper_1 keeper_2 keeper_3 loop_1 loop_2 loop_asserts; do
+    words=("../guests/store_${built#*_}.c")
+    [ "$built" = loop_asserts ] && words=(-DASSERTS ../guests/store_2.c)
+    ../guests/cc -s "${built%_*}.c" "${words[@]}" -o "$made/$built"
     if [ "$*" = --write ]; then
         cp "$made/$built" built
     fi

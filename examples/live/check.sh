@@ -214,6 +214,38 @@ END
     same "$work/wanted" "$work/comments" "the operator's comments"
 }
 
+# last_words: the update writes a line on descriptor 2, and breaks. By a rule the old version skips that write, which it doesn't make, and leads on.
+last_words() {
+    cat >"$work/old.s" <<END
+again: li a0, 0
+la a1, room
+li a2, 64
+li a7, 63
+ecall
+beq a0, zero, done
+mv a2, a0
+#
+li a0, 1
+li a7, 64
+ecall
+j again
+done: li a0, 0
+li a7, 94
+ecall
+.data
+room: .zero 64
+END
+    sed 's/^#$/lbu t0, 0(a1)\nli t1, 100\nbne t0, t1, good\nli a0, 2\nli a7, 64\necall\nebreak\ngood:/' "$work/old.s" >"$work/new.s"
+    "$program" asm "$work/old.s" >"$work/old"
+    "$program" asm "$work/new.s" >"$work/new"
+    "$program" rules --asm "$here/last_words.txt" >"$work/skips"
+    printf '%s\n' a d b | "$program" serve --rules "$work/skips" "$work/new" "$work/old" 2>"$work/transcript" >"$work/console" || bad "a service whose update has last words"
+    printf '%s\n' a d d b >"$work/wanted"
+    same "$work/wanted" "$work/console" "the console, with the update's last words"
+    told_in "$work/transcript" >"$work/told"
+    is "$(fates_of "$work/told")" $'0 fault breakpoint 100\n1 exited 0' "the fates of an update with last words"
+}
+
 plain() {
     sed -n 's/^line //p' "$guests/scripts/service" >"$work/lines"
     # a run, with its transcript and its status in files of their own
@@ -225,6 +257,7 @@ END
     chmod +x "$work/serve"
     in_a_pipe
     comments
+    last_words
     # the page's commands
     rows=$((rows + 1))
     "$here/../follow.py" "$here/../../docs/LIVE.md" "$program" || wrong=$((wrong + 1))
@@ -396,20 +429,21 @@ refused() {
 
 # One loop for all its clients. Ten are silent beside twenty that ask, and the update faults in the middle of a request; the silent ones are let go in the server's time. At SIGTERM one more is
 # silent, and then the server ends by itself, and writes how many requests there were.
+# a_loop UPDATE FAULT: with this update, and its fault.
 a_loop() {
-    local last options=(--idle 0) words=(--script "$work/loop_setup") versions=("$here/built/loop_2" "$here/built/loop_1")
+    local last options=(--idle 0) words=(--script "$work/loop_setup") versions=("$here/built/$1" "$here/built/loop_1")
     { echo varan-script 5; echo "clock $(date +%s) 0 0"; echo arg 5; } >"$work/loop_setup"
-    begun loop "${versions[@]}" || return 0
+    begun "$1" "${versions[@]}" || return 0
     rows=$((rows + 1))
-    "$here/many.py" "$port" 10 20 5 5 || bad "the clients of one loop"
+    "$here/many.py" "$port" 10 20 5 5 || bad "the clients of one loop, $1"
     exec {last}<>"/dev/tcp/127.0.0.1/$port"
-    until_it is_accepted 31 "$work/loop" || return 0
-    ended loop
+    until_it is_accepted 31 "$work/$1" || return 0
+    ended "$1"
     is "$(cat <&"$last")" late "the client that is silent at the end"
     exec {last}<&-
     is "$(cat "$work/console")" "206 requests" "the requests"
-    is "$(cat "$work/loop"/* | grep -c '^# wait')" 0 "waits that stand in the transcript"
-    again "$work/loop"/* $'0 fault load 100\n1 exited 0' "${versions[@]}"
+    is "$(cat "$work/$1"/* | grep -c '^# wait')" 0 "waits that stand in the transcript"
+    again "$work/$1"/* "0 fault $2 100"$'\n1 exited 0' "${versions[@]}"
 }
 
 # is_accepted N FOLDER: client N is accepted, by the transcript of the folder.
@@ -451,7 +485,8 @@ many_clients() {
     anew
     while_they_wait
     other_texts
-    a_loop
+    a_loop loop_2 load
+    a_loop loop_asserts breakpoint
     refused_lines
     a_stranger
     # versions that join and leave, and what can break

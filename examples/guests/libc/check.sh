@@ -69,6 +69,29 @@ int main(void) { execl("/bin/true", "true", (char *)0); return 0; }' >"$work/exe
 [ "$(console "$work/guest")" = "guest: exec: there is no other program" ] || { echo "check.sh: exec says something else"; wrong=1; }
 ends 'exited 127 '
 
+# how the first process ends by a signal; a failed assert is a fault, and writes nothing
+cat >"$work/ends.c" <<'END'
+#include <assert.h>
+#include <signal.h>
+#include <stdlib.h>
+static void back(int number) { (void)number; }
+int main(void)
+{
+    signal(SIGABRT, back);
+    switch (WAY) {
+    case 0: assert(WAY != 0);
+    case 1: abort();
+    default: return raise(WAY) + 3;
+    }
+}
+END
+for row in '0 fault breakpoint' '1 fault breakpoint' '11 fault breakpoint' '15 exited 143' '17 exited 3'; do
+    ./cc "-DWAY=${row%% *}" -o "$work/guest" "$work/ends.c"
+    console "$work/guest" >"$work/written"
+    ends "${row#* } "
+    cmp /dev/null "$work/written" || { echo "check.sh: ends.c, $row, writes something"; wrong=1; }
+done
+
 # a server that polls: three clients, of whom one says nothing; it ends where none is left
 {
     echo 'varan-script 3'

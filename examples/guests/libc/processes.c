@@ -149,8 +149,20 @@ _Noreturn void end_process(long status)
     end_with((status & 255) << 8);
 }
 
+/* A program that gives itself up, as by abort, sends itself one of these, and so does Linux to one that can't go on. */
+static bool is_fault(int signal)
+{
+    switch (signal) {
+    case SIGILL: case SIGTRAP: case SIGABRT: case SIGBUS: case SIGFPE: case SIGSEGV: case SIGSYS: return true;
+    default: return false;
+    }
+}
+
+/* An exit would be the service's end. By an EBREAK, which is a fault, the next version leads. */
 _Noreturn void end_by_signal(int signal)
 {
+    if (!parent && is_fault(signal))
+        __builtin_trap();
     end_with(signal);
 }
 
