@@ -4,6 +4,7 @@ A program that accepts connections stands behind ../../service/varan-listen, one
 each client.
 """
 import concurrent.futures
+import contextlib
 import pathlib
 import signal
 import socket
@@ -58,6 +59,34 @@ def at_once(port, clients):
         return list(pool.map(ask, [port] * len(clients), clients))
 
 
+class Nobody:
+    """No client that is silent."""
+
+    got = []
+
+    def __enter__(self):
+        return self
+
+    def __exit__(self, *_):
+        pass
+
+
+class Silent(Nobody):
+    """A client that sends these bytes, is silent as long as others come, and then leaves."""
+
+    def __init__(self, port, sent):
+        self.client = socket.create_connection(("127.0.0.1", port), SECONDS)
+        self.client.sendall(sent)
+
+    def __exit__(self, *_):
+        got = b""
+        with contextlib.suppress(ConnectionError), self.client:
+            self.client.shutdown(socket.SHUT_WR)
+            while part := self.client.recv(65536):
+                got += part
+        self.got = [got]
+
+
 # ---- services
 
 
@@ -88,12 +117,12 @@ class Service:
 class Connections(Service):
     """A program that accepts connections at this port, behind ../../service/varan-listen: one run, and after one that ends by itself the next."""
 
-    def __init__(self, room, inner, words, versions):
-        self.inner = inner
+    def __init__(self, room, inner, words, versions, options):
+        self.inner, self.options = inner, options
         super().__init__(room, words, versions)
 
     def command(self, words):
-        adapter = [HERE / "../../service/varan-listen", "--transcripts", self.folder, f"{self.port}:{self.inner}", "--"]
+        adapter = [HERE / "../../service/varan-listen", *self.options, "--transcripts", self.folder, f"{self.port}:{self.inner}", "--"]
         return [*adapter, words[0], "serve", "--clients", "--log", *words[1:]]
 
     def transcripts(self):
