@@ -8,7 +8,7 @@
 #include <stdio.h>
 #include <string.h>
 
-enum { MOST_CLIENTS = 65536 };
+enum { MOST_CLIENTS = 1 << 24 };
 
 static bool is_closed[MOST_CLIENTS];
 static unsigned clients, closed;

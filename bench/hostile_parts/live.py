@@ -15,8 +15,8 @@ import time
 
 from hostile_parts.broken import damaged_text
 from hostile_parts.failing import WANTING
-from hostile_parts.program import CLOCK, TOP, is_small, write
-from hostile_parts.readers import Refused, Wrong, read_arrival, read_arrivals, read_report
+from hostile_parts.program import CLOCK, TOP, is_refusal, is_small, write
+from hostile_parts.readers import MOST_CLIENTS, Refused, Wrong, read_arrival, read_arrivals, read_report
 
 EXAMPLES = os.path.join(TOP, "examples")
 GUESTS, SERVERS = os.path.join(EXAMPLES, "guests", "built"), os.path.join(EXAMPLES, "server", "built")
@@ -199,6 +199,31 @@ class Live:
         """Whether the guests may have ended before more was asked for: no more clients come, or no more input."""
         return ("end", b"clients") in taken or ("end", b"input") in taken
 
+    # ---- more clients than form 4 lets come
+
+    def many(self):
+        """They come to a port where no guest listens. The transcript has them all, and `run` takes it; with form 4 in its head it is refused."""
+        case = BY_CLIENTS
+        sent = b"".join(b"connect 9\nend %d\n" % it for it in range(MOST_CLIENTS[4] + 1)) + b"end clients\n"
+        write("in", sent)
+        answer = self.program.run(case.words, given="in", last=[(os.POSIX_SPAWN_OPEN, 2, "t", os.O_WRONLY | os.O_CREAT | os.O_TRUNC, 0o600)])
+        with open("t", "rb") as file:
+            transcript = file.read()
+
+        def all_taken(answer):
+            if answer.status != 0 or arrivals_in(transcript) != read_arrivals(sent.split(b"\n"))[0]:
+                raise Wrong("not all that was sent is taken")
+
+        def refused(answer):
+            lines = [b"" if line.startswith(b"file ") else line for line in transcript.split(b"\n")[1:]]
+            place, cause = read_arrivals(lines, 4)[1]
+            is_refusal(answer, "t", f"line {place + 1} {cause}")
+
+        self.tally.add("live: many clients", case.words, answer, all_taken)
+        self.tally.add("live: many clients", case.again, self.program.run(case.again), lambda answer: None)
+        write("t", transcript.replace(b"varan-script 5", b"varan-script 4", 1))
+        self.tally.add("live: many clients", case.again, self.program.run(case.again), refused)
+
     # ---- streams of the process
 
     def streams(self):
@@ -302,8 +327,8 @@ class Live:
                 raise Wrong(f"the client that stayed got {answers[2]!r}")
             taken = b"".join(line for line in without_comments(transcript).splitlines(keepends=True) if re.match(rb"connect|data|end|time", line))
             held = not_taken(transcript)
-            # What varan-listen sent isn't kept. Behind the end of all clients it may tell the ends of those that had still stayed, and their times, for which no call asks.
-            if held and not (taken.endswith(b"\nend clients\n") and re.fullmatch(rb"((time \d+|end) \d+\n)+", held)):
+            # What varan-listen sent isn't kept. Behind the end of all clients it may tell the ends of those that had stayed, and their times, for which no call asks.
+            if held and not (b"\nend clients\n" in taken and re.fullmatch(rb"((time \d+|end) \d+\n)+", held)):
                 raise Wrong(f"not taken: {held[:80]}")
             case.sent = taken + held
             self.rehearse(case, transcript)
@@ -317,6 +342,7 @@ class Live:
         for kind, case in (("lines", PLAIN), ("lines of --clients", BY_LINES), ("clients", BY_CLIENTS), ("clients of a loop", BY_LOOP)):
             for content in damaged_text(case.sent):
                 self.broken(kind, case, content)
+        self.many()
         self.streams()
         for case in CASES:
             self.failing(case)

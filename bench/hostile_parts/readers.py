@@ -132,7 +132,9 @@ def read_script(content):
 
 # Arrivals
 
-MOST_ARRIVAL, MOST_CLIENTS = 2_000, 65_536
+MOST_ARRIVAL = 2_000
+# By the form of the script. A live run's transcript has form 5.
+MOST_CLIENTS = {4: 65_536, 5: 2**32}
 
 
 def some_bytes(text):
@@ -184,10 +186,10 @@ def read_arrival(line):
 
 
 class Arrivals:
-    """What has come, one arrival after the other."""
+    """What has come, one arrival after the other, by a form of a script."""
 
-    def __init__(self):
-        self.taken, self.clients, self.over = [], 0, set()
+    def __init__(self, form):
+        self.taken, self.clients, self.over, self.most = [], 0, set(), MOST_CLIENTS[form]
 
     def take(self, line):
         """Takes a line in. It is refused by itself, or since it may not come next."""
@@ -199,7 +201,7 @@ class Arrivals:
         if stream in self.over:
             raise Refused("twice")
         if word == "connect":
-            if self.clients == MOST_CLIENTS:
+            if self.clients == self.most:
                 raise Refused("long")
             self.clients += 1
         if word == "end":
@@ -207,9 +209,9 @@ class Arrivals:
         self.taken.append(arrival)
 
 
-def read_arrivals(lines):
+def read_arrivals(lines, form=5):
     """The arrivals of lines, and the number and the cause of the line that is refused, or None."""
-    arrivals = Arrivals()
+    arrivals = Arrivals(form)
     for place, line in enumerate(lines, 1):
         if not line or line.startswith(b"#"):
             continue
