@@ -71,7 +71,7 @@ LIMITS = (
     ("nv_script/specs/Entry.antt", r"is_port n = .* nat_le n (\d+)", {"REPORT": "a port that is 0 or above {}", "SCRIPT": "PORT from 1 to {}"}),
     ("nv_arrivals/specs/Arrivals.antt", r"is_nanos n = nat_le n (\d+)", {"REPORT": "nanoseconds above {}", "SCRIPT": "N of `clock` and `time` is at most {}"}),
     ("nv_arrivals/specs/Reading.antt", r"length bytes\) (\d+)", {"REPORT": "`data` of more than {} bytes", "SCRIPT": "have 1 to {} bytes", "LIVE": "| an arrival | {} bytes"}),
-    ("nv_arrivals/specs/Order.antt", r"length came\.clients\) (\d+)", {"REPORT": "more than {} clients", "SCRIPT": "At most {} clients connect", "LIVE": "| clients | {} |"}),
+    ("nv_arrivals/specs/Order.antt", r"most_clients false = (\d+)", {"REPORT": "more than {} clients", "SCRIPT": "At most {} clients connect"}),
     ("nv_bpf/specs/Texts.antt", r"\(field (\d+) code\)", {"REPORT": "the first above {}, the second"}),
     ("nv_bpf/specs/Texts.antt", r"\(field (\d+) jt\)", {"REPORT": "the second or third above {}, the last"}),
     ("nv_bpf/specs/Verified.antt", r"ShiftLeft i k = unless \(nat_le k (\d+)\)", {"REPORT": "by a constant above {}", "RULES": "shifts by a constant go up to {}"}),
@@ -89,8 +89,9 @@ LIMITS = (
         "PROVED": "a seat {} + 4 n + 4 such steps", "inside/DECISIONS": "{} times, as often as a log can have an event", "TESTING": "of these a service has up to {}"}),
     ("nv_replay/specs/Rewrites.antt", r"MOST_REWRITES = (\d+)", {"PROVED": "never more than {}, `few` of `Version::rewrites`"}),
     ("nv_calls/specs/Limits.antt", r"MOST_BYTES = (\d+)", {"REPORT": "neither 0 nor 1, or more than {} bytes", "COMPARE": "together at most {}.", "GUESTS": "a call reads or writes {} at most"}),
-    ("nv_fs/specs/Stored.antt", r"Console bytes = write_console s (\d+) bytes", {"LIVE": "{} to the console"}),
-    ("nv_sockets/specs/Sockets.antt", r"write_link net (\d+) i bytes", {"LIVE": "{} to each client", "SCRIPT": "`write` takes up to {} bytes for each client"}),
+    ("nv_fs/specs/Starts.antt", r"console_limit polls = if polls then \d+ else (\d+)", {"LINUX": "ENOSPC, after {} bytes", "GUESTS": "and the console {};"}),
+    ("nv_sockets/specs/Sockets.antt", r"output_limit polls = if polls then \d+ else (\d+)", {
+        "SCRIPT": "`write` takes up to {} bytes for each client", "GUESTS": "a client gets {} over", "LINUX": "write past {} bytes to one client"}),
 )
 # what pages of docs/ say of an option's limits: the most, what it is where it isn't named, and both for a service
 OPTION_LIMITS = (
