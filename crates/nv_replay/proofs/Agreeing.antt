@@ -1,7 +1,6 @@
 -- The survivor's clause on the account of a run with planned changes of the leader.
-use Rattle.std.proofs.Common.{◌≡◌, ◌∙◌, sym, ap, subst, refl, ℕ, zero, suc, ◌+◌, ◌<◌, ◌≤◌, Bool, true, false, List, [], ◌∷◌, ◌++◌, length, map, Option, Some, None, arith, cond, length-append}
+use Rattle.std.proofs.Common.{◌≡◌, ◌∙◌, sym, ap, subst, refl, ℕ, zero, suc, ◌+◌, ◌<◌, ◌≤◌, Bool, true, false, List, [], ◌∷◌, length, map, Option, Some, None, arith, cond, length-append}
 use Rattle.std.specs.Prelude.{slice_get, nat_le}
-use Rattle.std.proofs.lemmas.Option.{same_Some}
 use Rattle.std.proofs.lemmas.Bool.Decides.{nat_tests}
 use Rattle.nv_calls.specs.Calls.{Entry}
 use Rattle.nv_calls.specs.Logs.{Start, served, IsLawful, IsLegal}
@@ -23,7 +22,7 @@ use Rattle.nv_replay.specs.Follow as following
 use Rattle.nv_replay.specs.Version.{Running, process_of}
 use Rattle.nv_replay.specs.Account.{AreFresh}
 use Rattle.nv_replay.specs.Survivors.{HasNoClone}
-use Rattle.nv_replay.specs.Survivors.{alone, SurvivorsAgree}
+use Rattle.nv_replay.specs.Survivors.{SurvivorsAgree}
 use Rattle.nv_replay.proofs.Covering.{turn_keeps, stage_keeps}
 use Rattle.nv_replay.proofs.Stretches.{hand_leads}
 use Rattle.nv_replay.proofs.Lone.{IsPlain}

@@ -1,6 +1,6 @@
 -- The parts of the log that the versions led are disjoint and cover it.
 use Rattle.std.proofs.Common.{◌≡◌, ◌∙◌, sym, ap, subst, refl, inl, inr, arith, length-append, cond}
-use Rattle.std.specs.Prelude.{ℕ, zero, suc, ◌+◌, ◌<◌, ◌≤◌, ◌⊎◌, Bool, true, false, List, [], ◌∷◌, ◌++◌, length, map, set, Option, Some, None, slice_get, not, ◌&&◌, nat_le}
+use Rattle.std.specs.Prelude.{ℕ, zero, suc, ◌+◌, ◌≤◌, Bool, true, false, List, [], ◌∷◌, ◌++◌, length, map, set, Option, Some, None, slice_get, not, ◌&&◌, nat_le}
 use Rattle.std.proofs.lemmas.Option.{same_Some}
 use Rattle.std.proofs.lemmas.Bool.Decides.{nat_tests}
 use Rattle.nv_calls.specs.Calls.{Entry}
@@ -13,8 +13,7 @@ use Rattle.nv_replay.specs.Follow.{Follower, Judge}
 use Rattle.nv_replay.specs.Lead.{Leader}
 use Rattle.nv_replay.specs.Tracks.{is_in}
 use Rattle.nv_replay.specs.Hands.{is_handed}
-use Rattle.nv_replay.specs.Sequence.{Account}
-use Rattle.nv_replay.specs.Monitor.{Part, Run, part, begun, after_lead, tracked_by, leads_on, turn_by, turn_of, turn_in, turn, told_standing, lines_of, account_of, sequence}
+use Rattle.nv_replay.specs.Monitor.{Part, Run, part, begun, after_lead, tracked_by, leads_on, turn_by, turn_of, turn_in, turn, told_standing, lines_of, sequence}
 use Rattle.nv_replay.proofs.Settled.{stage_zero, stage_one}
 use Rattle.nv_replay.specs.Covers.{times, led_times, Covers}
 use Rattle.nv_replay.proofs.Numbers.{set_cases}
@@ -109,7 +108,7 @@ module _ {P : Type 0} (g : Behaviour P) (judges : ℕ → Judge) (start : Start)
         ];
       }
 
-  turn_tiled : (m : Run P) → Tiled m → Tiled (turn g judges start most cuts hands m)
+  pub turn_tiled : (m : Run P) → Tiled m → Tiled (turn g judges start most cuts hands m)
   turn_tiled m t = turn_keeps (λ x. Tiled x) m t (λ i order q. record { covers = t.covers; told = t.told })
       (λ i order v o q h n.
       let f = tracked_by g judges start most cuts hands m.log i v in
@@ -117,16 +116,16 @@ module _ {P : Type 0} (g : Behaviour P) (judges : ℕ → Judge) (start : Start)
       let k = hand_grows g start most (cuts i) hands (length m.log) (record { process = f.process; log = m.log; fate = None }) in
       after_tiled m i order v f l (is_handed hands (length m.log) l) t h (omega (arith, ap length k.1, length-append m.log k.0)))
 
-  none_led : (ps : List P) (n : ℕ) → part_times (map part ps) n ≡ 0
+  pub none_led : (ps : List P) (n : ℕ) → part_times (map part ps) n ≡ 0
   none_led [] n = refl
   none_led (p ∷ ps) n = omega (arith, none_led ps n)
 
-  none_told : (ps : List P) (k : ℕ) (v : Part P) (line : Standing) → slice_get (map part ps) k ≡ Some v → v.told ≡ Some line → line.led ≡ v.led
+  pub none_told : (ps : List P) (k : ℕ) (v : Part P) (line : Standing) → slice_get (map part ps) k ≡ Some v → v.told ≡ Some line → line.led ≡ v.led
   none_told [] k v line h q = cc
   none_told (p ∷ ps) zero v line h q = let z : None ≡ Some line = ap (λ (u : Part P). u.told) (same_Some (part p) v h) ∙ q in cc
   none_told (p ∷ ps) (suc k) v line h q = none_told ps k v line h q
 
-  zero_below : (n : ℕ) → ◌≡◌ {A = ℕ} (cond (nat_le 0 n) 0 1) 0
+  pub zero_below : (n : ℕ) → ◌≡◌ {A = ℕ} (cond (nat_le 0 n) 0 1) 0
   zero_below n = let h : nat_le 0 n ≡ true = grind (arith, nat_tests) in rw h refl
 
   line_led : (log : List Entry) (i : ℕ) (v : Part P) (o : Option Standing) → v.told ≡ o → ((line : Standing) → v.told ≡ Some line → line.led ≡ v.led)

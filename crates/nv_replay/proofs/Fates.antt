@@ -1,6 +1,5 @@
 -- A version that goes on, and a fate.
 use Rattle.std.proofs.Common.{◌≡◌, inr, ◌∙◌, ap, refl, ℕ, true, false, List, [], length, take, Option, Some, None}
-use Rattle.std.specs.Prelude.{◌&&◌}
 use Rattle.nv_calls.specs.Calls.{Entry}
 use Rattle.nv_calls.specs.Logs.{live_after}
 use Rattle.nv_threads.specs.Behaviours.{Behaviour, IsProcess}

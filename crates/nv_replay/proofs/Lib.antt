@@ -15,11 +15,14 @@ pub mod Survivor
 pub mod Numbers
 pub mod Stretches
 pub mod Tracking
+pub mod Stops
+pub mod LettingGo
 pub mod Retracing
 pub mod Handing
 pub mod Rotating
 pub mod Unplanned
 pub mod Covering
+pub mod Behind
 pub mod Lone
 pub mod Survivors
 pub mod OneVersion

@@ -1,33 +1,25 @@
 -- A version that made no rewrite did what it would do alone, as a follower and as a leader.
-use Rattle.std.proofs.Common.{◌≡◌, ◌≢◌, ◌∙◌, sym, ap, subst, refl, inl, inr, arith, length-append}
-use Rattle.std.specs.Prelude.{ℕ, zero, suc, ◌+◌, ◌<◌, ◌≤◌, ◌⊎◌, Bool, true, false, List, [], ◌∷◌, ◌++◌, length, take, map, set, Option, Some, None, slice_get, Contains, option_map}
+use Rattle.std.proofs.Common.{◌≡◌, ◌∙◌, sym, ap, subst, refl, inl, inr, arith, length-append}
+use Rattle.std.specs.Prelude.{ℕ, zero, suc, ◌+◌, ◌≤◌, true, List, [], ◌∷◌, ◌++◌, length, take, Option, Some, None, slice_get, Contains, option_map}
 use Rattle.nv_calls.specs.Calls.{Entry}
-use Rattle.nv_calls.specs.Logs.{Start, served, IsLawful, IsLegal, live_after, child_of}
-use Rattle.nv_threads.specs.Behaviours.{Behaviour, IsProcess, IsStarted, event_answered}
+use Rattle.nv_calls.specs.Logs.{Start, served, IsLawful, IsLegal, child_of}
+use Rattle.nv_threads.specs.Behaviours.{Behaviour, IsProcess}
 use Rattle.nv_threads.specs.declared.turns.Want.TheVariants.{Any}
-use Rattle.nv_threads.specs.declared.turns.Came.TheVariants.{Asked}
 use Rattle.nv_replay.specs.declared.fate.Fate.{Fate}
 use Rattle.nv_replay.specs.declared.fate.Fate.TheVariants.{Exited}
-use Rattle.nv_replay.specs.declared.standing.Standing.{Standing}
 use Rattle.nv_replay.specs.Spans.{EndBy}
 use Rattle.nv_replay.specs.Settling.{stage}
-use Rattle.nv_replay.specs.Follow.{Follower, Judge, decided, consumed, follow, fresh, follow_next, IsInStep, is_exited, no_rules}
-use Rattle.nv_replay.specs.Lead.{Leader, lead, next_call}
-use Rattle.nv_replay.specs.Tracks.{track, track_next}
-use Rattle.nv_replay.specs.Hands.{is_handed, lead_to_hand}
-use Rattle.nv_replay.specs.Sequence.{is_going}
-use Rattle.nv_replay.proofs.Settled.{Reaches, reach_here, stage_zero, stage_one, stage_rests}
+use Rattle.nv_replay.specs.Follow.{Follower, Judge, decided, follow, fresh, follow_next, IsInStep, no_rules}
+use Rattle.nv_replay.specs.Lead.{Leader, next_call}
+use Rattle.nv_replay.specs.Tracks.{track_next}
+use Rattle.nv_replay.proofs.Settled.{Reaches, stage_zero, stage_one, stage_rests}
 use Rattle.nv_replay.proofs.Extending.{follow_reached, get_prefix, stage_grows, in_step_on, reach_all, take_prefix_of}
-use Rattle.nv_replay.proofs.Stepping.{consumed_in_step, none_back, decided_in_step}
+use Rattle.nv_replay.proofs.Stepping.{consumed_in_step}
 use Rattle.nv_replay.proofs.Surviving.{IsTrueTo, IsPlainLog, copied, copies, cases, true_before, decided_alone}
 use Rattle.nv_replay.proofs.Falling.{within}
-use Rattle.nv_replay.proofs.Turning.{get_last, take_all}
-use Rattle.nv_replay.proofs.Tracking.{track_extended, track_from, stage_after, ends_later, followed_seen, follow_more}
+use Rattle.nv_replay.proofs.Turning.{get_last}
 use Rattle.nv_replay.proofs.Retracing.{beside, HasServed, goes_on, back}
-use Rattle.nv_replay.proofs.Handing.{hands_over}
-use Rattle.nv_replay.proofs.Stretches.{hand_leads}
-use Rattle.nv_replay.proofs.Spanning.{span_end}
-use Rattle.nv_replay.proofs.Survivor.{uncut_reach, stage_in_step, lawful_prefix}
+use Rattle.nv_replay.proofs.Survivor.{stage_in_step, lawful_prefix}
 
 -- no event makes a thread
 abbrev pub IsChildless : List Entry → Type 0

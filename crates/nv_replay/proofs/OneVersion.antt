@@ -1,19 +1,18 @@
 -- A run of one version alone: planned lengths change nothing in its log.
-use Rattle.std.proofs.Common.{◌≡◌, ◌≢◌, ◌∙◌, sym, ap, subst, refl, inl, inr, arith, length-append}
-use Rattle.std.specs.Prelude.{ℕ, zero, suc, ◌+◌, ◌<◌, ◌≤◌, ◌⊎◌, Bool, true, false, List, [], ◌∷◌, ◌++◌, length, take, map, set, Option, Some, None, slice_get}
+use Rattle.std.proofs.Common.{◌≡◌, ◌∙◌, sym, ap, subst, refl, inl, inr, arith, length-append}
+use Rattle.std.specs.Prelude.{ℕ, zero, suc, ◌+◌, ◌<◌, ◌⊎◌, Bool, true, false, List, [], ◌∷◌, ◌++◌, length, set, Option, Some, None, slice_get}
 use Rattle.nv_calls.specs.Calls.{Entry}
 use Rattle.nv_calls.specs.Logs.{Start}
 use Rattle.nv_threads.specs.Behaviours.{Behaviour, IsProcess}
 use Rattle.nv_replay.specs.declared.fate.Fate.{Fate}
-use Rattle.nv_replay.specs.declared.standing.Standing.{Standing}
 use Rattle.nv_replay.specs.Spans.{EndBy}
 use Rattle.nv_replay.specs.Settling.{stage}
-use Rattle.nv_replay.specs.Follow.{Follower, Judge, follow, fresh, follow_next, no_rules, is_exited}
+use Rattle.nv_replay.specs.Follow.{Follower, Judge, follow, fresh, follow_next}
 use Rattle.nv_replay.specs.Lead.{Leader, lead, next_call}
 use Rattle.nv_replay.specs.Tracks.{track, track_next}
 use Rattle.nv_replay.specs.Hands.{count_above, is_handed, lead_to_hand, next_or_hand}
 use Rattle.nv_replay.specs.Sequence.{is_going}
-use Rattle.nv_replay.specs.Monitor.{Part, Run, part, begun, led_line, after_lead, tracked_by, leads_on, turn, sequence}
+use Rattle.nv_replay.specs.Monitor.{Part, Run, part, begun, after_lead, tracked_by, leads_on, turn, sequence}
 use Rattle.nv_replay.proofs.Settled.{Reaches, reach_here, at_rest, stage_rests}
 use Rattle.nv_replay.proofs.Extending.{reach_all}
 use Rattle.nv_replay.proofs.Wholes.{rests}
@@ -23,7 +22,6 @@ use Rattle.nv_replay.proofs.Tracking.{track_from}
 use Rattle.nv_replay.proofs.Handing.{hands_over}
 use Rattle.nv_replay.proofs.Stretches.{hand_leads, hand_rests, hand_grows, next_unless}
 use Rattle.nv_replay.proofs.Spanning.{span_end}
-use Rattle.nv_replay.proofs.Fates.{none_on}
 use Rattle.nv_replay.proofs.Rotating.{turns_left, turn_falls, after_falls, grows, empty_rests, led, few_at_first}
 use Rattle.nv_replay.proofs.Wholly.{lead_is}
 use Rattle.nv_replay.proofs.Retracing.{beside}

@@ -1,5 +1,5 @@
 -- who gives up the lead stands where Track over the log brings it.
-use Rattle.std.proofs.Common.{◌≡◌, ◌∙◌, sym, ap, subst, refl, ℕ, zero, suc, ◌+◌, ◌<◌, ◌≤◌, Bool, true, false, List, [], ◌∷◌, ◌++◌, length, Option, Some, None, arith, cond, append_assoc, length-append}
+use Rattle.std.proofs.Common.{◌≡◌, ◌∙◌, sym, ap, subst, refl, ℕ, zero, suc, ◌+◌, ◌<◌, ◌≤◌, Bool, true, false, List, [], ◌∷◌, ◌++◌, length, Option, Some, None, arith, cond, length-append}
 use Rattle.std.specs.Prelude.{slice_get, nat_le, option_map}
 use Rattle.nv_calls.specs.Calls.{Entry}
 use Rattle.nv_calls.specs.Logs.{Start, served}
@@ -16,7 +16,7 @@ use Rattle.nv_replay.specs.Lead.{Leader, is_cut, led, logged, unless_ended, next
 use Rattle.nv_replay.proofs.Settled.{Reaches, reach_here, reach_first, stage_zero, stage_one, stage_rests}
 use Rattle.nv_replay.proofs.Extending.{stage_grows, get_prefix}
 use Rattle.nv_replay.proofs.Turning.{get_last}
-use Rattle.nv_replay.specs.Tracks.{is_led, track_next, track_on, tracked, retraced_by}
+use Rattle.nv_replay.specs.Tracks.{is_led, track_next, retraced_by}
 
 module _ {P : Type 0} (g : Behaviour P) (replies : Start) (most : ℕ) (cut : Option ℕ) where
   abbrev event : Leader P → ℕ → Entry

@@ -1,17 +1,15 @@
 -- The turns of a run come to rest.
-use Rattle.std.proofs.Common.{◌≡◌, ◌≢◌, ◌∙◌, sym, ap, subst, refl, inl, inr, arith, length-append}
-use Rattle.std.specs.Prelude.{ℕ, zero, suc, ◌+◌, ◌<◌, ◌≤◌, ◌⊎◌, Bool, true, false, List, [], ◌∷◌, ◌++◌, length, map, set, Option, Some, None, slice_get}
+use Rattle.std.proofs.Common.{◌≡◌, sym, ap, refl, inl, inr, arith, length-append}
+use Rattle.std.specs.Prelude.{ℕ, suc, ◌+◌, ◌<◌, ◌≤◌, ◌⊎◌, Bool, true, false, List, [], ◌∷◌, length, Option, Some, None, slice_get}
 use Rattle.nv_calls.specs.Calls.{Entry}
 use Rattle.nv_calls.specs.Logs.{Start}
-use Rattle.nv_threads.specs.Behaviours.{Behaviour, IsProcess}
+use Rattle.nv_threads.specs.Behaviours.{Behaviour}
 use Rattle.nv_replay.specs.declared.fate.Fate.{Fate}
-use Rattle.nv_replay.specs.Settling.{stage}
-use Rattle.nv_replay.specs.Follow.{Follower, Judge, fresh, is_exited}
+use Rattle.nv_replay.specs.Follow.{Follower, Judge}
 use Rattle.nv_replay.specs.Lead.{Leader}
-use Rattle.nv_replay.specs.Sequence.{Account, is_going}
-use Rattle.nv_replay.proofs.Settled.{Reaches, reach_here, reached, at_rest, Falls}
-use Rattle.nv_replay.specs.Hands.{count_above, is_handed, lead_to_hand}
-use Rattle.nv_replay.specs.Monitor.{Part, Run, numbers, begun, with_span, led_line, after_lead, tracked_by, leads_on, turn_by, turn_of, turn_in, turn, account_of, sequence}
+use Rattle.nv_replay.proofs.Settled.{Reaches, reached, Falls}
+use Rattle.nv_replay.specs.Hands.{count_above, is_handed}
+use Rattle.nv_replay.specs.Monitor.{Part, Run, begun, after_lead, tracked_by, leads_on, turn_by, turn_of, turn_in, turn, account_of, sequence}
 use Rattle.nv_replay.proofs.Numbers.{above_later, above_less, above_all, handed_at, numbers_length}
 use Rattle.nv_replay.proofs.Stretches.{hand_grows}
 

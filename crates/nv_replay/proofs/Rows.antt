@@ -1,19 +1,17 @@
 -- What the definition gives for versions that make three calls, the last of which is exit_group.
-use Rattle.std.proofs.Common.{◌≡◌, refl, ℕ, ◌+◌, ◌-◌, Bool, true, false, List, [], ◌∷◌, length, map, Option, Some, None}
+use Rattle.std.proofs.Common.{◌≡◌, refl, ℕ, ◌+◌, ◌-◌, true, false, List, [], ◌∷◌, Option, Some, None}
 use Rattle.std.specs.Prelude.{◌==◌, pos, nat_le, if◌then◌else◌}
-use Rattle.nv_calls.specs.Calls.{Request, Response, Entry, is_same}
+use Rattle.nv_calls.specs.Calls.{is_same}
 use Rattle.nv_calls.specs.Logs.{Start}
 use Rattle.nv_threads.specs.Behaviours.{Behaviour}
-use Rattle.nv_threads.specs.declared.turns.Want.{Want}
 use Rattle.nv_threads.specs.declared.turns.Came.{Came}
 use Rattle.nv_threads.specs.declared.turns.Came.TheVariants.{Asked, Fault}
-use Rattle.nv_machine.specs.declared.outcome.FaultKind.TheVariants.{Load, Calls}
-use Rattle.nv_replay.specs.declared.fate.Fate.TheVariants.{Exited, Fault as Faulted, Memory}
+use Rattle.nv_machine.specs.declared.outcome.FaultKind.TheVariants.{Load}
+use Rattle.nv_replay.specs.declared.fate.Fate.TheVariants.{Exited, Fault as Faulted, Memory, LetGo}
 use Rattle.nv_replay.specs.declared.standing.Standing.{Standing}
 use Rattle.nv_replay.specs.Settling.{stage}
-use Rattle.nv_replay.specs.Follow.{no_rules, met, decided, judged}
+use Rattle.nv_replay.specs.Follow.{no_rules, met, decided}
 use Rattle.nv_replay.specs.Lead.{next_call}
-use Rattle.nv_replay.specs.Sequence.{Account}
 use Rattle.nv_replay.specs.Tracks.{retraced_by, track_next, track}
 use Rattle.nv_replay.specs.Hands.{next_or_hand, lead_to_hand}
 use Rattle.nv_replay.specs.Monitor.{sequence, turn}
@@ -91,3 +89,28 @@ hands_not_met : lines (faulty ∷ whole ∷ whole ∷ []) (3 ∷ 4 ∷ []) none
     ≡ record { fate = Some (Faulted Load 100 65568); seen = 2; led = (0, 2) ∷ []; rewrites = 0 } ∷ exited 3 ((2, 3) ∷ []) ∷ exited 3 [] ∷ []
 unfolding sequence turn lead_to_hand next_or_hand next_call track track_next retraced_by decided met stage is_same
 hands_not_met = refl
+
+-- version 1 is let go at the second event; the others end as they would without it
+let_go_at_one : lines (whole ∷ whole ∷ whole ∷ []) [] (λ i. if i == 1 then Some 1 else None)
+    ≡ exited 3 ((0, 3) ∷ []) ∷ record { fate = Some LetGo; seen = 1; led = []; rewrites = 0 } ∷ exited 3 [] ∷ []
+unfolding sequence turn lead_to_hand next_or_hand next_call track track_next retraced_by decided met stage is_same
+let_go_at_one = refl
+
+-- it isn't there any more where version 0 faults, and version 2 leads on
+let_go_before_a_fault : lines (faulty ∷ whole ∷ whole ∷ []) [] (λ i. if i == 1 then Some 1 else None)
+    ≡ record { fate = Some (Faulted Load 100 65568); seen = 2; led = (0, 2) ∷ []; rewrites = 0 }
+    ∷ record { fate = Some LetGo; seen = 1; led = []; rewrites = 0 } ∷ exited 3 ((2, 3) ∷ []) ∷ []
+unfolding sequence turn lead_to_hand next_or_hand next_call track track_next retraced_by decided met stage is_same
+let_go_before_a_fault = refl
+
+-- one that has seen the whole log isn't let go, whatever its cut
+in_step_is_not_let_go : lines (faulty ∷ whole ∷ []) [] (λ i. if i == 1 then Some 3 else None)
+    ≡ record { fate = Some (Faulted Load 100 65568); seen = 2; led = (0, 2) ∷ []; rewrites = 0 } ∷ exited 3 ((2, 3) ∷ []) ∷ []
+unfolding sequence turn lead_to_hand next_or_hand next_call track track_next retraced_by decided met stage is_same
+in_step_is_not_let_go = refl
+
+-- version 0 gives up the lead after an event, and is let go at the second one
+let_go_after_a_hand : lines (whole ∷ whole ∷ []) (1 ∷ []) (λ i. if i == 0 then Some 2 else None)
+    ≡ record { fate = Some LetGo; seen = 2; led = (0, 1) ∷ []; rewrites = 0 } ∷ exited 3 ((1, 3) ∷ []) ∷ []
+unfolding sequence turn lead_to_hand next_or_hand next_call track track_next retraced_by decided met stage is_same
+let_go_after_a_hand = refl

@@ -1,6 +1,6 @@
 -- A leader that may give up the lead: what it comes to is what a leader comes to, so far.
-use Rattle.std.proofs.Common.{◌≡◌, ◌∙◌, sym, ap, subst, refl, inl, inr, arith, append_assoc, append-nil}
-use Rattle.std.specs.Prelude.{ℕ, zero, suc, ◌+◌, ◌<◌, ◌≤◌, ◌⊎◌, Bool, true, false, List, [], ◌∷◌, ◌++◌, length, Option, Some, None, nat_le}
+use Rattle.std.proofs.Common.{◌≡◌, ◌∙◌, sym, ap, subst, refl, inl, inr, arith}
+use Rattle.std.specs.Prelude.{ℕ, zero, suc, ◌+◌, ◌<◌, ◌≤◌, ◌⊎◌, Bool, true, false, List, [], ◌++◌, Option, Some, None}
 use Rattle.nv_calls.specs.Calls.{Entry}
 use Rattle.nv_calls.specs.Logs.{Start}
 use Rattle.nv_threads.specs.Behaviours.{Behaviour, IsProcess}
@@ -12,7 +12,7 @@ use Rattle.nv_replay.proofs.Settled.{Reaches, reach_here, reach_first, reached, 
 use Rattle.nv_replay.proofs.Extending.{stage_grows}
 use Rattle.nv_replay.proofs.Falling.{lead_size, lead_falls}
 use Rattle.nv_replay.specs.Hands.{is_handed, unless_handed, next_or_hand, lead_to_hand}
-use Rattle.nv_replay.proofs.Numbers.{none_planned, handed_at}
+use Rattle.nv_replay.proofs.Numbers.{none_planned}
 
 module _ {P : Type 0} (g : Behaviour P) (start : Start) (most : ℕ) (cut : Option ℕ) (hands : List ℕ) (from : ℕ) where
   cases_by : (l : Leader P) (b : Bool) → (unless_handed g start most cut hands from l b ≡ l) ⊎ (unless_handed g start most cut hands from l b ≡ next_call g start most cut l)

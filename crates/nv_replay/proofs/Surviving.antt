@@ -10,7 +10,7 @@ use Rattle.nv_threads.specs.declared.turns.Want.TheVariants.{Any, Only}
 use Rattle.nv_threads.specs.declared.turns.Came.{Came}
 use Rattle.nv_threads.specs.declared.turns.Came.TheVariants.{Asked, Fault}
 use Rattle.nv_replay.specs.declared.fate.Fate.{Fate}
-use Rattle.nv_replay.specs.declared.fate.Fate.TheVariants.{Exited, Fault as Faulted, Refused, Memory}
+use Rattle.nv_replay.specs.declared.fate.Fate.TheVariants.{Exited, Fault as Faulted, Refused, Memory, LetGo}
 use Rattle.nv_replay.specs.Settling.{stage}
 use Rattle.nv_replay.specs.Permits.{Permit, Give, Pass, Consume, No}
 use Rattle.nv_replay.specs.Follow.{Follower, Judge, decided, met, judged, consumed, permit_by, refusal_by, follow_next, on_next, IsInStep}
@@ -28,6 +28,7 @@ is_well (Some (Exited s)) = true
 is_well (Some (Faulted a b c)) = false
 is_well (Some (Refused a b c d)) = false
 is_well (Some Memory) = false
+is_well (Some LetGo) = false
 
 -- it has made no rewrite, and has met no fault and no refusal
 pub record IsTrueTo {P : Type 0} (s : Follower P) : Type 0 where

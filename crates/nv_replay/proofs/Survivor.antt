@@ -1,5 +1,5 @@
 -- The survivor's clause, over the definitions.
-use Rattle.std.proofs.Common.{◌≡◌, ◌∙◌, sym, ap, subst, refl, ℕ, zero, suc, ◌+◌, ◌<◌, ◌≤◌, inl, inr, Bool, true, false, ◌==◌, List, [], ◌∷◌, ◌++◌, length, Option, Some, None, arith}
+use Rattle.std.proofs.Common.{◌≡◌, ◌∙◌, sym, ap, subst, refl, ℕ, zero, suc, ◌<◌, ◌≤◌, inl, inr, Bool, true, false, ◌==◌, List, [], ◌∷◌, ◌++◌, length, Option, Some, None, arith}
 use Rattle.std.specs.Prelude.{slice_get, Contains, nat_le}
 use Rattle.std.proofs.lemmas.Bool.{cases_lt}
 use Rattle.std.proofs.lemmas.Bool.Decides.{nat_tests}
@@ -10,7 +10,7 @@ use Rattle.nv_threads.specs.declared.turns.Want.TheVariants.{Any}
 use Rattle.nv_threads.specs.declared.turns.Came.{Came}
 use Rattle.nv_threads.specs.declared.turns.Came.TheVariants.{Asked, Fault as Faults}
 use Rattle.nv_replay.specs.declared.fate.Fate.{Fate}
-use Rattle.nv_replay.specs.declared.fate.Fate.TheVariants.{Exited, Fault, Refused, Memory}
+use Rattle.nv_replay.specs.declared.fate.Fate.TheVariants.{Exited, Fault, Refused, Memory, LetGo}
 use Rattle.nv_replay.specs.Settling.{stage}
 use Rattle.nv_replay.specs.Follow.{Follower, Judge, fresh, follow_next, IsInStep, is_exited}
 use Rattle.nv_replay.specs.Lead.{Leader, next_call, unless_ended, led, is_cut, is_memory}
@@ -34,6 +34,7 @@ exited_no_memory (Some (Exited s)) h = refl
 exited_no_memory (Some (Fault a b c)) h = cc
 exited_no_memory (Some (Refused a b c d)) h = cc
 exited_no_memory (Some Memory) h = cc
+exited_no_memory (Some LetGo) h = refl
 
 pub exited_is_well : (f : Option Fate) → is_exited f ≡ true → is_well f ≡ true
 exited_is_well None h = refl
@@ -41,6 +42,7 @@ exited_is_well (Some (Exited s)) h = refl
 exited_is_well (Some (Fault a b c)) h = h
 exited_is_well (Some (Refused a b c d)) h = h
 exited_is_well (Some Memory) h = h
+exited_is_well (Some LetGo) h = h
 
 pub exited_well : (f : Option Fate) → is_exited f ≡ true → is_going f ≡ false
 exited_well None h = cc

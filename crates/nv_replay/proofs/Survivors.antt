@@ -1,34 +1,32 @@
 -- The survivor's clause with planned changes of the leader, over the definitions.
-use Rattle.std.proofs.Common.{◌≡◌, ◌≢◌, ◌∙◌, sym, ap, subst, refl, inl, inr, arith, length-append}
-use Rattle.std.specs.Prelude.{ℕ, zero, suc, ◌+◌, ◌<◌, ◌≤◌, ◌⊎◌, Bool, true, false, List, [], ◌∷◌, ◌++◌, length, take, map, set, Option, Some, None, slice_get, ◌==◌}
+use Rattle.std.proofs.Common.{◌≡◌, ◌∙◌, sym, ap, subst, refl, inl, inr, arith, length-append}
+use Rattle.std.specs.Prelude.{ℕ, zero, suc, ◌+◌, Bool, true, false, List, [], ◌∷◌, ◌++◌, length, take, map, Option, Some, None, slice_get, ◌==◌}
 use Rattle.std.proofs.lemmas.Option.{same_Some}
 use Rattle.nv_calls.specs.Calls.{Entry}
-use Rattle.nv_calls.specs.Logs.{Start, IsLawful, IsLegal}
+use Rattle.nv_calls.specs.Logs.{Start}
 use Rattle.nv_threads.specs.Behaviours.{Behaviour, IsProcess, IsStarted}
 use Rattle.nv_replay.specs.declared.fate.Fate.{Fate}
 use Rattle.nv_replay.specs.declared.standing.Standing.{Standing}
-use Rattle.nv_replay.specs.Spans.{EndBy}
 use Rattle.nv_replay.specs.Settling.{stage}
-use Rattle.nv_replay.specs.Follow.{Follower, Judge, follow, fresh, follow_next, IsInStep, is_exited}
-use Rattle.nv_replay.specs.Lead.{Leader, lead, next_call, is_memory, unless_ended}
+use Rattle.nv_replay.specs.Follow.{Follower, Judge, follow, fresh, IsInStep, is_exited}
+use Rattle.nv_replay.specs.Lead.{Leader, lead, next_call, is_memory}
 use Rattle.nv_replay.specs.Tracks.{track, track_next}
 use Rattle.nv_replay.specs.Hands.{has, is_handed, lead_to_hand}
-use Rattle.nv_replay.specs.Sequence.{is_going}
-use Rattle.nv_replay.specs.Monitor.{Part, Run, part, numbers, begun, led_line, after_lead, tracked_by, leads_on, turn, told_standing, lines_of, account_of, sequence}
-use Rattle.nv_replay.proofs.Settled.{Reaches, reach_here, reached}
+use Rattle.nv_replay.specs.Monitor.{Part, Run, part, begun, led_line, after_lead, tracked_by, leads_on, turn, told_standing, lines_of, sequence}
+use Rattle.nv_replay.proofs.Settled.{Reaches, reach_here}
 use Rattle.nv_replay.proofs.Wholly.{lead_is}
 use Rattle.nv_replay.proofs.Extending.{follow_reached, in_step_on, reach_all, take_prefix_of}
 use Rattle.nv_replay.proofs.Surviving.{IsTrueTo, copied}
 use Rattle.nv_replay.proofs.Turning.{take_all}
 use Rattle.nv_replay.proofs.Numbers.{set_cases, distinct_numbers, IsDistinct, has_here, has_after, has_either, distinct_last, eq_self, handed_at}
-use Rattle.nv_replay.proofs.Tracking.{track_extended, track_from, stage_after, followed_seen, follow_more}
+use Rattle.nv_replay.proofs.Tracking.{track_extended, track_from, stage_after, followed_seen}
+use Rattle.nv_replay.proofs.LettingGo.{goes_on, exited_whole}
 use Rattle.nv_replay.proofs.Handing.{hands_over}
 use Rattle.nv_replay.proofs.Stretches.{hand_leads, hand_grows}
 use Rattle.nv_replay.proofs.Spanning.{span_end}
-use Rattle.nv_replay.proofs.Fates.{off_some}
-use Rattle.nv_replay.proofs.Covering.{turn_keeps, stage_keeps, after}
+use Rattle.nv_replay.proofs.Covering.{turn_keeps, stage_keeps}
 use Rattle.nv_replay.proofs.Survivor.{uncut_reach, exited_no_memory, exited_is_well, exited_well, exited_all, fresh_in_step}
-use Rattle.nv_replay.proofs.Lone.{IsPlain, plain_prefix, follower, Keeps, leads_so, beginning, Trace, Whole, wholly}
+use Rattle.nv_replay.proofs.Lone.{IsPlain, plain_prefix, follower, leads_so, beginning, Trace, Whole, wholly}
 use Rattle.nv_replay.proofs.Retracing.{beside}
 
 none_no_memory : (f : Option Fate) → f ≡ None → is_memory f ≡ false
@@ -178,9 +176,10 @@ module _ {P : Type 0} (g : Behaviour P) (laws : IsProcess g) (judges : ℕ → J
       }
 
   -- the trace of a version that gives up the lead, and what one that exits did
-  hands_trace : (i : ℕ) (log : List Entry) (v : Part P) (f : Follower P) → T i log v → tracked_by g judges start most cuts hands log i v ≡ f
-      → (t : T i log v) → f ≡ follow g (judges i) log t.at
-  hands_trace i log v f t0 e t = sym e ∙ track_from g laws (judges i) v.led log (fresh v.process) t.at t.reach t.past
+  hands_trace : (i : ℕ) (log : List Entry) (v : Part P) → (tracked_by g judges start most cuts hands log i v).fate ≡ None
+      → (t : T i log v) → tracked_by g judges start most cuts hands log i v ≡ follow g (judges i) log t.at
+  hands_trace i log v n t = goes_on (cuts i) log (λ (x : List Entry). track g (judges i) v.led x (fresh v.process)) n
+      ∙ track_from g laws (judges i) v.led log (fresh v.process) t.at t.reach t.past
 
   turn_inv : (m : Run P) → Inv m → Inv (turn g judges start most cuts hands m)
   turn_inv m s = turn_keeps g judges start most cuts hands (λ x. Inv x) m s (λ i order e. shorter m i order e s)
@@ -193,7 +192,7 @@ module _ {P : Type 0} (g : Behaviour P) (laws : IsProcess g) (judges : ℕ → J
       after_inv m i order v f l k.0 (is_handed hands (length m.log) l) s ov e h k.1
       (λ b pl so.
       let t = s.trace (plain pl) i v h so un in
-      let fe = hands_trace i m.log v f t refl t in
+      let fe = hands_trace i m.log v n t in
       let L : P → List Entry = λ q. (lead_to_hand g start most (cuts i) hands (length m.log) (record { process = q; log = m.log; fate = None })).log in
       let G : Follower P → Type 0 = λ y. IsPlain start most (leads_on g judges start most cuts hands m.log i y).log → (leads_on g judges start most cuts hands m.log i y).fate ≡ None
       → T i (leads_on g judges start most cuts hands m.log i y).log (record v { led = v.led ++ (length m.log, length (leads_on g judges start most cuts hands m.log i y).log) ∷ [] }) in
@@ -202,7 +201,7 @@ module _ {P : Type 0} (g : Behaviour P) (laws : IsProcess g) (judges : ℕ → J
       subst G (sym fe) have pl (handed_at hands (length m.log) l b).on)
       (λ pl so ex z.
       let t = s.trace (plain pl) i v h so un in
-      let fe = hands_trace i m.log v f t refl t in
+      let fe = hands_trace i m.log v n t in
       let nf : (follow g (judges i) m.log t.at).fate ≡ None = ap (λ (y : Follower P). y.fate) (sym fe) ∙ n in
       let G : Follower P → Type 0 = λ y. is_exited (leads_on g judges start most cuts hands m.log i y).fate ≡ true → y.rewrites ≡ 0
       → alone_log v.process ≡ (leads_on g judges start most cuts hands m.log i y).log in
@@ -272,7 +271,8 @@ module _ {P : Type 0} (g : Behaviour P) (laws : IsProcess g) (judges : ℕ → J
   exited_line m k v line None s pl h so e q ex z =
       let t = s.trace pl k v h so e in
       let f = follow g (judges k) m.log t.at in
-      let te : tracked_by g judges start most cuts hands m.log k v ≡ f = track_from g laws (judges k) v.led m.log (fresh v.process) t.at t.reach t.past in
+      let te : tracked_by g judges start most cuts hands m.log k v ≡ f = exited_whole g laws (judges k) v.led v.process (cuts k) m.log (ap (λ (y : Standing). is_exited y.fate) q ∙ ex)
+      ∙ track_from g laws (judges k) v.led m.log (fresh v.process) t.at t.reach t.past in
       let xf : is_exited f.fate ≡ true = ap (λ (y : Follower P). is_exited y.fate) (sym te) ∙ (ap (λ (y : Standing). is_exited y.fate) q ∙ ex) in
       let zf : f.rewrites ≡ 0 = ap (λ (y : Follower P). y.rewrites) (sym te) ∙ (ap (λ (y : Standing). y.rewrites) q ∙ z) in
       let w = wholly g laws (judges k) start most m.log v.led v.process pl t in

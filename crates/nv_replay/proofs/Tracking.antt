@@ -198,7 +198,7 @@ module _ {P : Type 0} (g : Behaviour P) (judge : Judge) where
       (judged g s p u (refusal_by judge e (g.call p u)) (permit_by judge e (g.call p u)))).seen ≤ s.seen + 1)
       [ true ↦ omega arith | false ↦ judged_one s p u _ _ ]
 
-  decided_one : (s : Follower P) (e : Entry) → (decided g judge e s).seen ≤ s.seen + 1
+  pub decided_one : (s : Follower P) (e : Entry) → (decided g judge e s).seen ≤ s.seen + 1
   unfolding decided
   decided_one s e = met_one s e _ _
 

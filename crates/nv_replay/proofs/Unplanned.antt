@@ -1,23 +1,24 @@
 -- Without planned lengths the run is that of versions of which each leads at most once.
-use Rattle.std.proofs.Common.{◌≡◌, ◌∙◌, sym, ap, subst, refl, inl, inr, arith, append_assoc, length-append}
-use Rattle.std.specs.Prelude.{ℕ, zero, suc, ◌+◌, ◌<◌, ◌≤◌, ◌⊎◌, Bool, true, false, List, [], ◌∷◌, ◌++◌, length, map, set, Option, Some, None, slice_get}
+use Rattle.std.proofs.Common.{◌≡◌, ◌∙◌, sym, ap, subst, refl, append_assoc, length-append}
+use Rattle.std.specs.Prelude.{ℕ, ◌+◌, Bool, true, false, List, [], ◌∷◌, ◌++◌, length, map, Option, Some, None}
 use Rattle.nv_calls.specs.Calls.{Entry}
 use Rattle.nv_calls.specs.Logs.{Start}
 use Rattle.nv_threads.specs.Behaviours.{Behaviour, IsProcess}
 use Rattle.nv_replay.specs.declared.fate.Fate.{Fate}
 use Rattle.nv_replay.specs.declared.standing.Standing.{Standing}
-use Rattle.nv_replay.specs.Settling.{stage}
 use Rattle.nv_replay.specs.Follow.{Follower, Judge, fresh, follow_next, follow, is_exited}
 use Rattle.nv_replay.specs.Lead.{Leader, lead}
 use Rattle.nv_replay.specs.Sequence.{Account, leads, is_going, follower_line, leader_line, sequence_from}
 use Rattle.nv_replay.specs.Sequence as plain
 use Rattle.nv_replay.proofs.Settled.{Reaches, reach_here, reach_first}
 use Rattle.nv_replay.specs.Tracks.{track, track_next}
-use Rattle.nv_replay.specs.Hands.{is_handed, lead_to_hand}
-use Rattle.nv_replay.specs.Monitor.{Part, Run, numbers, part, begun, with_span, led_line, after_lead, tracked_by, leads_on, turn, told_standing, lines_of, account_of, sequence}
+use Rattle.nv_replay.specs.Hands.{is_handed}
+use Rattle.nv_replay.specs.Monitor.{Part, Run, numbers, part, led_line, after_lead, tracked_by, leads_on, turn, told_standing, lines_of, sequence}
 use Rattle.nv_replay.proofs.Numbers.{none_planned, get_after, set_after}
 use Rattle.nv_replay.proofs.Stretches.{stage_same, leads_whole}
 use Rattle.nv_replay.proofs.Tracking.{next_after, follow_seen}
+use Rattle.nv_replay.specs.LettingGo.{front, let_go}
+use Rattle.nv_replay.proofs.LettingGo.{goes_on}
 use Rattle.nv_replay.proofs.Rotating.{over_rests, empty_rests, dropped, led, sequence_is}
 
 -- who has led nothing follows
@@ -33,8 +34,15 @@ module _ {P : Type 0} (g : Behaviour P) (laws : IsProcess g) (judges : ℕ → J
   abbrev lines : List Entry → ℕ → List (Part P) → List Standing
   lines log i vs = lines_of g judges start most cuts [] log i vs
 
-  untold : (log : List Entry) (i : ℕ) (p : P) → told_standing g judges start most cuts [] log i (part p) None ≡ follower_line (follow g (judges i) log (fresh p))
-  untold log i p = ap (λ (f : Follower P). record { fate = f.fate; seen = f.seen; led = []; rewrites = f.rewrites }) (track_none g (judges i) log (fresh p))
+  -- version i over this log
+  abbrev By : List Entry → ℕ → P → Follower P
+  By log i p = plain.followed_by g judges start most cuts log i p
+
+  none_by : (log : List Entry) (i : ℕ) (p : P) → tracked_by g judges start most cuts [] log i (part p) ≡ By log i p
+  none_by log i p = ap (λ (f : Follower P). let_go (cuts i) log f) (track_none g (judges i) (front (cuts i) log) (fresh p))
+
+  untold : (log : List Entry) (i : ℕ) (p : P) → told_standing g judges start most cuts [] log i (part p) None ≡ follower_line (By log i p)
+  untold log i p = ap (λ (f : Follower P). record { fate = f.fate; seen = f.seen; led = []; rewrites = f.rewrites }) (none_by log i p)
 
   over_case : (ps : List P) (i : ℕ) (log : List Entry) → record { log = log; lines = lines log i (map part ps) } ≡ Seq ps i log true
   unfolding sequence_from
@@ -79,21 +87,21 @@ module _ {P : Type 0} (g : Behaviour P) (laws : IsProcess g) (judges : ℕ → J
     parts = append_assoc prefix (x ∷ []) (map part ps) j;
   }
 
-  off_leads : (p : P) (ps : List P) (i : ℕ) (log : List Entry) (x : Fate) → (follow g (judges i) log (fresh p)).fate ≡ Some x
+  off_leads : (p : P) (ps : List P) (i : ℕ) (log : List Entry) (x : Fate) → (By log i p).fate ≡ Some x
       → Seq (p ∷ ps) i log false ≡ record {
         log = (Seq ps (i + 1) log false).log;
-        lines = follower_line (follow g (judges i) (Seq ps (i + 1) log false).log (fresh p)) ∷ (Seq ps (i + 1) log false).lines;
+        lines = follower_line (By (Seq ps (i + 1) log false).log i p) ∷ (Seq ps (i + 1) log false).lines;
       }
   unfolding sequence_from
   off_leads p ps i log x h = rw h refl
 
   abbrev whole : ℕ → P → List Entry → Leader P
-  whole i p log = lead g start most (cuts i) (record { process = (follow g (judges i) log (fresh p)).process; log = log; fate = None })
+  whole i p log = lead g start most (cuts i) (record { process = (By log i p).process; log = log; fate = None })
 
-  on_leads : (p : P) (ps : List P) (i : ℕ) (log : List Entry) → (follow g (judges i) log (fresh p)).fate ≡ None
+  on_leads : (p : P) (ps : List P) (i : ℕ) (log : List Entry) → (By log i p).fate ≡ None
       → Seq (p ∷ ps) i log false ≡ record {
         log = (Seq ps (i + 1) (whole i p log).log (is_exited (whole i p log).fate)).log;
-        lines = leader_line (follow g (judges i) log (fresh p)) (whole i p log) ∷ (Seq ps (i + 1) (whole i p log).log (is_exited (whole i p log).fate)).lines;
+        lines = leader_line (By log i p) (whole i p log) ∷ (Seq ps (i + 1) (whole i p log).log (is_exited (whole i p log).fate)).lines;
       }
   unfolding sequence_from
   on_leads p ps i log h = rw h refl
@@ -101,27 +109,27 @@ module _ {P : Type 0} (g : Behaviour P) (laws : IsProcess g) (judges : ℕ → J
   abbrev All : List P → Type 0
   All ps = (prefix : List (Part P)) (log : List Entry) (over : Bool) → Comes prefix (at ps prefix log over) (Seq ps (length prefix) log over)
 
-  passes : (p : P) (ps : List P) (prefix : List (Part P)) (log : List Entry) (x : Fate) → (follow g (judges (length prefix)) log (fresh p)).fate ≡ Some x
+  passes : (p : P) (ps : List P) (prefix : List (Part P)) (log : List Entry) (x : Fate) → (By log (length prefix) p).fate ≡ Some x
       → All ps → Comes prefix (at (p ∷ ps) prefix log false) (Seq (p ∷ ps) (length prefix) log false)
   passes p ps prefix log x h ih =
       let i : ℕ = length prefix in
       let m : Run P = at (p ∷ ps) prefix log false in
       let t = dropped g judges start most cuts [] m i (numbers (i + 1) ps) (part p) x refl refl (get_after prefix (part p) (map part ps))
-      (ap (λ (f : Follower P). f.fate) (track_none g (judges i) log (fresh p)) ∙ h) in
+      (ap (λ (f : Follower P). f.fate) (none_by log i p) ∙ h) in
       let c = ih (prefix ++ part p ∷ []) log false in
       let n : length (prefix ++ part p ∷ []) ≡ i + 1 = length-append prefix (part p ∷ []) in
       let c' = subst (λ (k : ℕ). Comes (prefix ++ part p ∷ []) (at ps (prefix ++ part p ∷ []) log false) (Seq ps k log false)) n c in
-      next_comes prefix (part p) (follower_line (follow g (judges i) (Seq ps (i + 1) log false).log (fresh p))) m (at ps (prefix ++ part p ∷ []) log false)
+      next_comes prefix (part p) (follower_line (By (Seq ps (i + 1) log false).log i p)) m (at ps (prefix ++ part p ∷ []) log false)
       (Seq (p ∷ ps) i log false) (Seq ps (i + 1) log false) (t ∙ sym (shifted ps prefix (part p) log false)) c' (off_leads p ps i log x h)
       (untold (Seq ps (i + 1) log false).log i p)
 
-  takes : (p : P) (ps : List P) (prefix : List (Part P)) (log : List Entry) → (follow g (judges (length prefix)) log (fresh p)).fate ≡ None
+  takes : (p : P) (ps : List P) (prefix : List (Part P)) (log : List Entry) → (By log (length prefix) p).fate ≡ None
       → All ps → Comes prefix (at (p ∷ ps) prefix log false) (Seq (p ∷ ps) (length prefix) log false)
   takes p ps prefix log h ih =
       let i : ℕ = length prefix in
       let m : Run P = at (p ∷ ps) prefix log false in
-      let f : Follower P = follow g (judges i) log (fresh p) in
-      let tn : track g (judges i) [] log (fresh p) ≡ f = track_none g (judges i) log (fresh p) in
+      let f : Follower P = By log i p in
+      let tn : tracked_by g judges start most cuts [] log i (part p) ≡ f = none_by log i p in
       let t = led g judges start most cuts [] m i (numbers (i + 1) ps) (part p) refl refl (get_after prefix (part p) (map part ps))
       (ap (λ (y : Follower P). y.fate) tn ∙ h) in
       let l : Leader P = whole i p log in
@@ -138,13 +146,14 @@ module _ {P : Type 0} (g : Behaviour P) (laws : IsProcess g) (judges : ℕ → J
       let n : length (prefix ++ x ∷ []) ≡ i + 1 = length-append prefix (x ∷ []) in
       let c = ih (prefix ++ x ∷ []) l.log over in
       let c' = subst (λ (k : ℕ). Comes (prefix ++ x ∷ []) (at ps (prefix ++ x ∷ []) l.log over) (Seq ps k l.log over)) n c in
-      let seen : f.seen ≡ length log = follow_seen g laws (judges i) log p h in
+      let whole' : f ≡ follow g (judges i) log (fresh p) = goes_on (cuts i) log (λ (y : List Entry). follow g (judges i) y (fresh p)) h in
+      let seen : f.seen ≡ length log = ap (λ (y : Follower P). y.seen) whole' ∙ follow_seen g laws (judges i) log p (ap (λ (y : Follower P). y.fate) (sym whole') ∙ h) in
       let ln : led_line (part p) f (length log) l ≡ leader_line f l = ap
       (λ (k : ℕ). record { fate = l.fate; seen = length l.log; led = (k, length l.log) ∷ []; rewrites = f.rewrites }) (sym seen) in
       next_comes prefix x (leader_line f l) m (at ps (prefix ++ x ∷ []) l.log over) (Seq (p ∷ ps) i log false) (Seq ps (i + 1) l.log over)
       (t' ∙ (s ∙ sym (shifted ps prefix x l.log over))) c' (on_leads p ps i log h) ln
 
-  goes : (p : P) (ps : List P) (prefix : List (Part P)) (log : List Entry) (o : Option Fate) → (follow g (judges (length prefix)) log (fresh p)).fate ≡ o
+  goes : (p : P) (ps : List P) (prefix : List (Part P)) (log : List Entry) (o : Option Fate) → (By log (length prefix) p).fate ≡ o
       → All ps → Comes prefix (at (p ∷ ps) prefix log false) (Seq (p ∷ ps) (length prefix) log false)
   goes p ps prefix log None h ih = takes p ps prefix log h ih
   goes p ps prefix log (Some x) h ih = passes p ps prefix log x h ih
@@ -175,7 +184,7 @@ module _ {P : Type 0} (g : Behaviour P) (laws : IsProcess g) (judges : ℕ → J
   comes : (ps : List P) → All ps
   comes [] prefix log over = none_left prefix log over
   comes (p ∷ ps) prefix log true = stands (p ∷ ps) prefix log
-  comes (p ∷ ps) prefix log false = goes p ps prefix log (follow g (judges (length prefix)) log (fresh p)).fate refl (comes ps)
+  comes (p ∷ ps) prefix log false = goes p ps prefix log (By log (length prefix) p).fate refl (comes ps)
 
   pub no_hands : (ps : List P) → sequence g judges start most cuts [] ps ≡ plain.plain_sequence g judges start most cuts ps
   no_hands ps =

@@ -4,7 +4,7 @@ use Rattle.std.proofs.lemmas.Bool.Decides.{nat_tests}
 use Rattle.nv_calls.specs.Logs.{Start}
 use Rattle.nv_threads.specs.Behaviours.{Behaviour, IsProcess}
 use Rattle.nv_replay.specs.declared.fate.Fate.{Fate}
-use Rattle.nv_replay.specs.declared.fate.Fate.TheVariants.{Exited, Fault, Refused, Memory}
+use Rattle.nv_replay.specs.declared.fate.Fate.TheVariants.{Exited, Fault, Refused, Memory, LetGo}
 use Rattle.nv_replay.specs.Lead.{Leader, is_cut, is_memory, cut_of, next_call, unless_ended, lead}
 use Rattle.nv_replay.specs.Sequence.{is_going}
 use Rattle.nv_replay.proofs.Settled.{Reaches, reached}
@@ -20,6 +20,7 @@ cut_below (Some (Exited s)) n k h = refl
 cut_below (Some (Fault a b c)) n k h = refl
 cut_below (Some (Refused a b c d)) n k h = refl
 cut_below (Some Memory) n k h = none_before n k h
+cut_below (Some LetGo) n k h = refl
 
 cut_here : (f : Option Fate) (n : ℕ) → is_cut (cut_of f n) n ≡ is_memory f
 cut_here None n = refl
@@ -27,6 +28,7 @@ cut_here (Some (Exited s)) n = refl
 cut_here (Some (Fault a b c)) n = refl
 cut_here (Some (Refused a b c d)) n = refl
 cut_here (Some Memory) n = grind (arith, nat_tests)
+cut_here (Some LetGo) n = refl
 
 cut_elsewhere : (f : Option Fate) (n m : ℕ) → is_memory f ≡ false → is_cut (cut_of f m) n ≡ false
 cut_elsewhere None n m h = refl
@@ -34,6 +36,7 @@ cut_elsewhere (Some (Exited s)) n m h = refl
 cut_elsewhere (Some (Fault a b c)) n m h = refl
 cut_elsewhere (Some (Refused a b c d)) n m h = refl
 cut_elsewhere (Some Memory) n m h = cc
+cut_elsewhere (Some LetGo) n m h = refl
 
 pub suits_end : (f : Option Fate) (n : ℕ) → Suits (cut_of f n) f n
 suits_end f n = record { below = cut_below f n; end = λ h. refl }

@@ -3,6 +3,7 @@ pub mod Taking
 pub mod Permits
 pub mod Follow
 pub mod Lead
+pub mod LettingGo
 pub mod Spans
 pub mod Version
 pub mod Views
@@ -13,6 +14,7 @@ pub mod Tracks
 pub mod Hands
 pub mod Monitor
 pub mod Unplanned
+pub mod Behind
 pub mod Covers
 pub mod Survivors
 pub mod Rewrites

@@ -1,5 +1,5 @@
 -- The whole monitor: the versions lead in order, one after another.
-use Rattle.std.specs.Prelude.{ℕ, zero, suc, ◌+◌, Bool, true, false, List, [], ◌∷◌, ◌++◌, length, set, map, Option, Some, None, slice_get}
+use Rattle.std.specs.Prelude.{ℕ, ◌+◌, Bool, true, false, List, [], ◌∷◌, ◌++◌, length, set, map, Option, Some, None, slice_get}
 use Rattle.nv_calls.specs.Calls.{Entry}
 use Rattle.nv_calls.specs.Logs.{Start}
 use Rattle.nv_threads.specs.Behaviours.{Behaviour}
@@ -8,6 +8,7 @@ use Rattle.nv_replay.specs.declared.standing.Standing.{Standing}
 use Rattle.nv_replay.specs.Settling.{stage}
 use Rattle.nv_replay.specs.Follow.{Follower, Judge, fresh, is_exited}
 use Rattle.nv_replay.specs.Lead.{Leader}
+use Rattle.nv_replay.specs.LettingGo.{front, let_go}
 use Rattle.nv_replay.specs.Sequence.{Account}
 use Rattle.nv_replay.specs.Tracks.{track}
 use Rattle.nv_replay.specs.Hands.{is_handed, lead_to_hand}
@@ -65,8 +66,9 @@ after_lead m i order v f l false = record {
 }
 
 module _ {P : Type 0} (g : Behaviour P) (judges : ℕ → Judge) (start : Start) (most : ℕ) (cuts : ℕ → Option ℕ) (hands : List ℕ) where
+  -- version i over this log, which it follows as far as its cut
   abbrev pub tracked_by : List Entry → ℕ → Part P → Follower P
-  tracked_by log i v = track g (judges i) v.led log (fresh v.process)
+  tracked_by log i v = let_go (cuts i) log (track g (judges i) v.led (front (cuts i) log) (fresh v.process))
 
   -- version i leads from where it stands
   abbrev pub leads_on : List Entry → ℕ → Follower P → Leader P

@@ -22,4 +22,6 @@ pub enum Fate {
     },
     /// As the leader it made a call for which there was no memory.
     Memory,
+    /// As a follower it was let go: the leader had waited for it too long.
+    LetGo,
 }

@@ -17,7 +17,7 @@ mod whole_log;
 
 pub use account::Account;
 pub use fate::Fate;
-pub use laws::unplanned_is_plain;
+pub use laws::{let_go_alone, unplanned_is_plain};
 pub use spans::Spans;
 pub use standing::Standing;
 pub use version::{Followed, Led, Version};

@@ -322,6 +322,14 @@ impl Version {
         Followed::Dropped(fate)
     }
 
+    /// It is let go, and follows no further.
+    pub fn let_go(&mut self)
+        requires { IsFollowing self.old }
+        ensures { self.new ≡ record self.old { at = record self.old.at { fate = Some Fate.LetGo } } }
+    {
+        self.standing.fate = Some(Fate::LetGo);
+    }
+
     /// Leads from here on.
     pub fn begin_lead(&mut self)
         requires following { IsFollowing self.old }

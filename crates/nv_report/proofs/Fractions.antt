@@ -6,7 +6,7 @@ use Rattle.serde_json.specs.View.{items_of}
 use Rattle.serde_json.specs.Written.{compact_text, has_float, items_have_float, members_have_float}
 use Rattle.nv_calls.specs.Calls.{Entry}
 use Rattle.nv_replay.specs.declared.fate.Fate.{Fate}
-use Rattle.nv_replay.specs.declared.fate.Fate.TheVariants.{Exited, Fault, Refused, Memory}
+use Rattle.nv_replay.specs.declared.fate.Fate.TheVariants.{Exited, Fault, Refused, Memory, LetGo}
 use Rattle.nv_replay.specs.declared.standing.Standing.{Standing}
 use Rattle.nv_replay.specs.Sequence.{Account}
 use Rattle.nv_report.specs.Json.{natural, integer, led_value, event_value, span_value, version_members, version_value, report_value, json_text}
@@ -37,6 +37,7 @@ in_members (Some (Exited code)) s = both_false (has_float (led_value s)) false (
 in_members (Some (Fault kind tid pc)) s = both_false (has_float (led_value s)) false (in_led s) refl
 in_members (Some (Refused tid nr stamp verdict)) s = both_false (has_float (led_value s)) false (in_led s) refl
 in_members (Some Memory) s = both_false (has_float (led_value s)) false (in_led s) refl
+in_members (Some LetGo) s = both_false (has_float (led_value s)) false (in_led s) refl
 
 pub in_report : (output : List ℕ) (a : Account) → has_float (report_value output a) ≡ false
 unfolding report_value

@@ -8,7 +8,7 @@ use Rattle.serde_json.specs.View.{items_of}
 use Rattle.serde_json.specs.Written.{compact_text}
 use Rattle.nv_calls.specs.Calls.{Entry}
 use Rattle.nv_replay.specs.declared.fate.Fate.{Fate}
-use Rattle.nv_replay.specs.declared.fate.Fate.TheVariants.{Exited, Fault, Refused, Memory}
+use Rattle.nv_replay.specs.declared.fate.Fate.TheVariants.{Exited, Fault, Refused, Memory, LetGo}
 use Rattle.nv_replay.specs.declared.standing.Standing.{Standing}
 use Rattle.nv_replay.specs.Sequence.{Account}
 use Rattle.nv_report.specs.Versions.{kind_text}
@@ -81,6 +81,11 @@ version_members (Some (Refused tid nr stamp verdict)) s =
     (member (codes "verdict") (word_json verdict) no_members)))))))
 version_members (Some Memory) s =
     member (codes "fate") (string (codes "memory"))
+    (member (codes "led") (led_value s)
+    (member (codes "rewrites") (natural s.rewrites)
+    (member (codes "seen") (natural s.seen) no_members)))
+version_members (Some LetGo) s =
+    member (codes "fate") (string (codes "left"))
     (member (codes "led") (led_value s)
     (member (codes "rewrites") (natural s.rewrites)
     (member (codes "seen") (natural s.seen) no_members)))

@@ -6,7 +6,7 @@ use Rattle.std.specs.List.{flat_map, concat}
 use Rattle.nv_machine.specs.declared.outcome.FaultKind.{FaultKind}
 use Rattle.nv_machine.specs.declared.outcome.FaultKind.TheVariants.{Illegal, Misaligned, Fetch, Load, Store, Breakpoint, Budget, Deadlock, Calls}
 use Rattle.nv_replay.specs.declared.fate.Fate.{Fate}
-use Rattle.nv_replay.specs.declared.fate.Fate.TheVariants.{Exited, Fault, Refused, Memory}
+use Rattle.nv_replay.specs.declared.fate.Fate.TheVariants.{Exited, Fault, Refused, Memory, LetGo}
 use Rattle.nv_replay.specs.declared.standing.Standing.{Standing}
 use Rattle.nv_text.specs.Numbers.{hex_of}
 
@@ -33,6 +33,7 @@ fate_text (Exited code) = concat (codes "exited " ∷ decimal code ∷ [])
 fate_text (Fault kind tid pc) = fault_text kind tid ++ hex_of (to_be_bytes w32 pc)
 fate_text (Refused tid nr stamp verdict) = refusal_text tid nr stamp ++ hex_of (to_be_bytes w32 verdict)
 fate_text Memory = codes "memory"
+fate_text LetGo = codes "left"
 
 -- nothing of a version that hasn't ended
 abbrev pub end_text : Option Fate → List ℕ

@@ -126,6 +126,18 @@ fn starved(alloc: Global, standing: &Standing) -> Result<Value, AllocError>
     })
 }
 
+fn let_go(alloc: Global, standing: &Standing) -> Result<Value, AllocError>
+    ensures { IfOk result (λ value. view value ≡ object (version_members (Some Fate.LetGo) standing.now)) }
+{
+    let led = led_value(alloc, standing)?;
+    json!(in alloc; {
+        "fate": "left",
+        "led": led,
+        "rewrites": standing.rewrites,
+        "seen": standing.seen
+    })
+}
+
 fn version_value(alloc: Global, standing: &Standing) -> Result<Value, AllocError>
     ensures { IfOk result (λ value. view value ≡ version_value standing.now) }
 {
@@ -142,6 +154,7 @@ fn version_value(alloc: Global, standing: &Standing) -> Result<Value, AllocError
             },
         ) => refused(alloc, tid, nr, stamp, verdict, standing),
         Some(Fate::Memory) => starved(alloc, standing),
+        Some(Fate::LetGo) => let_go(alloc, standing),
     }
 }
 

@@ -67,6 +67,7 @@ pub fn put_fate<S: Sink>(sink: &mut S, fate: Fate) -> Put
             verdict,
         } => put_refused(sink, tid, nr, stamp, verdict),
         Fate::Memory => put_all(sink, b"memory"),
+        Fate::LetGo => put_all(sink, b"left"),
     }
 }
 

@@ -1,20 +1,20 @@
 -- A run from its beginning to its account.
-use Rattle.std.proofs.Common.{◌≡◌, ◌≢◌, ◌∙◌, sym, ap, subst, refl, ℕ, zero, suc, ◌+◌, ◌<◌, ◌≤◌, ◌⊎◌, inl, inr, Bool, true, false, List, [], ◌∷◌, ◌++◌, length, take, map, set, Option, Some, None, arith, length-append}
-use Rattle.std.specs.Prelude.{slice_get, not, ◌==◌, ◌||◌, if◌then◌else◌}
+use Rattle.std.proofs.Common.{◌≡◌, ◌∙◌, sym, ap, subst, refl, ℕ, zero, suc, ◌+◌, ◌<◌, ◌≤◌, ◌⊎◌, inl, inr, Bool, true, false, List, [], ◌∷◌, length, take, map, set, Option, Some, None, arith, length-append}
+use Rattle.std.specs.Prelude.{slice_get, not, if◌then◌else◌}
 use Rattle.std.proofs.lemmas.Option.{same_Some}
-use Rattle.std.proofs.lemmas.Bool.Decides.{nat_tests}
 use Rattle.nv_calls.specs.Calls.{Entry}
 use Rattle.nv_calls.specs.Logs.{Start, live_after}
-use Rattle.nv_threads.specs.Behaviours.{Behaviour, IsProcess, IsStarted}
+use Rattle.nv_threads.specs.Behaviours.{Behaviour, IsProcess}
 use Rattle.nv_replay.specs.declared.fate.Fate.{Fate}
 use Rattle.nv_replay.specs.declared.standing.Standing.{Standing}
 use Rattle.nv_replay.specs.Follow.{Follower, Judge, fresh, follow, IsInStep, is_exited}
-use Rattle.nv_replay.specs.Lead.{Leader, cut_of}
-use Rattle.nv_replay.specs.Tracks.{track, track_next}
+use Rattle.nv_replay.specs.Lead.{cut_of}
+use Rattle.nv_replay.specs.Tracks.{track_next}
 use Rattle.nv_replay.specs.Spans.{EndBy}
 use Rattle.nv_replay.specs.Hands.{has, count_above, is_handed}
-use Rattle.nv_replay.specs.Sequence.{Account, is_going, cuts_of}
-use Rattle.nv_replay.specs.Monitor.{Part, Run, part, numbers, begun, turn, told_standing, lines_of, account_of, sequence}
+use Rattle.nv_replay.specs.Sequence.{is_going, cuts_of}
+use Rattle.nv_replay.specs.LettingGo.{is_let_go, stop_of}
+use Rattle.nv_replay.specs.Monitor.{Run, part, numbers, begun, turn, tracked_by, told_standing, lines_of, sequence}
 use Rattle.nv_replay.specs.Version.{Running, IsFresh, leader_of, standing_of, process_of}
 use Rattle.nv_replay.proofs.Settled.{Reaches, reach_here}
 use Rattle.nv_replay.proofs.Falling.{within}
@@ -22,18 +22,18 @@ use Rattle.nv_replay.specs.Account.{AreFresh}
 use Rattle.nv_replay.specs.Covers.{AreEnded}
 use Rattle.nv_sequence.specs.inner.Rests.{AreInStep, AreRested, IsRested}
 use Rattle.nv_replay.specs.Turns.{Suits}
-use Rattle.nv_sequence.specs.Passing.{HasLed, HadLead, TurnDone, MayHaveTurn, followed, given_up, turned_of}
-use Rattle.nv_sequence.specs.inner.Passing.{HadTurn, NextTurn, FirstMayHaveTurn, order_of, turn_goes_on}
+use Rattle.nv_sequence.specs.Passing.{HasLed, TurnDone, followed, given_up, turned_of}
+use Rattle.nv_sequence.specs.inner.Passing.{NextTurn, FirstMayHaveTurn, order_of, turn_goes_on}
 use Rattle.nv_replay.specs.Account as accounts
 use Rattle.nv_sequence.specs.declared.leading.Turned.{Turned}
-use Rattle.nv_sequence.specs.declared.leading.Turned.TheVariants.{Left, GaveUp, Exited}
-use Rattle.nv_replay.proofs.Numbers.{has_within, has_numbers, distinct_numbers, numbers_length, numbers_map, map_at, some_at, IsDistinct, has_here, above_all, above_later, above_less, handed_at, eq_same}
+use Rattle.nv_replay.proofs.Numbers.{has_within, has_numbers, distinct_numbers, numbers_length, numbers_map, map_at, some_at, has_here, above_all, above_later, above_less, handed_at}
 use Rattle.nv_replay.proofs.Rotating.{sequence_is, over_rests, empty_rests}
-use Rattle.nv_sequence.proofs.Rounds.{told_by, part_of, parts_of, run_of, Stands, tracks, has_led}
-use Rattle.nv_sequence.proofs.Going.{AreSo, Goes, After, goes_off, passed_by, led_by, suits_by, order_off}
+use Rattle.nv_sequence.proofs.Rounds.{told_by, part_of, parts_of, run_of, Stands, tracks_whole, tells, follower_stays, has_led}
+use Rattle.nv_sequence.proofs.Going.{AreSo, Goes, After, goes_off, passed_by, led_by, suits_by, order_off, never}
 use Rattle.nv_replay.proofs.Fates.{off_some, none_on}
+use Rattle.nv_replay.proofs.Stops.{stop_same}
 use Rattle.nv_sequence.proofs.Taking.{fated_follow}
-use Rattle.nv_replay.proofs.Tracking.{follow_more, followed_seen, track_from}
+use Rattle.nv_replay.proofs.Tracking.{follow_more, followed_seen}
 use Rattle.nv_replay.proofs.Turning.{take_all}
 use Rattle.nv_replay.proofs.Wholly.{suits_end}
 
@@ -58,9 +58,9 @@ parts_fresh : {P : Type 0} (g : Behaviour P) (i : ℕ) (vs : List (Running P)) �
 parts_fresh g i [] a = refl
 parts_fresh g i (v ∷ vs) a = λ j. record { process = v.at.process; led = a.0.not_led j; told = ap (told_by v) a.0.idle j } ∷ parts_fresh g (i + 1) vs a.1 j
 
-pub cuts_at : (lines : List Standing) (k : ℕ) (line : Standing) → slice_get lines k ≡ Some line → cuts_of lines k ≡ cut_of line.fate line.seen
+pub cuts_at : (lines : List Standing) (k : ℕ) (line : Standing) → slice_get lines k ≡ Some line → cuts_of lines k ≡ stop_of line.fate line.seen
 cuts_at [] k line h = cc
-cuts_at (l ∷ lines) zero line h = ap (λ (x : Standing). cut_of x.fate x.seen) (same_Some l line h)
+cuts_at (l ∷ lines) zero line h = ap (λ (x : Standing). stop_of x.fate x.seen) (same_Some l line h)
 cuts_at (l ∷ lines) (suc k) line h = cuts_at lines k line h
 
 module _ {P : Type 0} (g : Behaviour P) (laws : IsProcess g) (judges : ℕ → Judge) (start : Start) (most : ℕ) (hands : List ℕ) (ps : List P) where
@@ -176,6 +176,7 @@ module _ {P : Type 0} (g : Behaviour P) (laws : IsProcess g) (judges : ℕ → J
           index = f.index ∙ n;
           asked = λ z. f.none_asked;
           ended = λ z. let y : false ≡ true = sym f.idle ∙ z in cc;
+          stays = λ z. let y : false ≡ true = sym f.idle ∙ z in cc;
           reach = λ z. subst (λ (x : Follower P). Reaches (track_next g (judges k) v.led []) (fresh p) x) (sym at) (reach_here (track_next g (judges k) v.led []) (fresh p));
           past = subst (λ (x : List (ℕ × ℕ)). EndBy v.at.seen x) (sym f.not_led) (record { each = λ i x y. cc });
           in_step = subst (λ (x : Follower P). IsInStep g [] x) (sym f.at) (record { within = omega arith; live = λ z. f.started.live; on = λ z. f.started.on; exited = λ z. cc });
@@ -209,34 +210,62 @@ module _ {P : Type 0} (g : Behaviour P) (laws : IsProcess g) (judges : ℕ → J
   rests cuts m (inl h) = over_rests g judges start most cuts hands m h
   rests cuts m (inr h) = empty_rests g judges start most cuts hands m h
 
-  so_told : (vs : List (Running P)) (log : List Entry) → AreSo (cuts_of (map standing_of (News log vs))) vs
-  so_told vs log k v h =
-      let f : Follower P = follow g (judges v.index) log v.at in
+  abbrev StopOf : List Entry → Running P → Option ℕ
+  StopOf log v = stop_of (follow g (judges v.index) log v.at).fate (follow g (judges v.index) log v.at).seen
+
+  ended_follow : (k : ℕ) (p : P) (v : Running P) (log : List Entry) → v.leading ≡ true → Stands g hands (judges k) k p v log
+      → follow g (judges v.index) log v.at ≡ v.at
+  ended_follow k p v log e s = fated_follow g laws (judges v.index) log v.at (off_some v.at.fate (s.ended e))
+
+  -- the loop lets no version go
+  none_let_go : (k : ℕ) (p : P) (v : Running P) (log : List Entry) (b : Bool) → v.leading ≡ b → Stands g hands (judges k) k p v log
+      → is_let_go (follow g (judges v.index) log v.at).fate ≡ false
+  none_let_go k p v log true e s = ap (λ (x : Follower P). is_let_go x.fate) (ended_follow k p v log e s) ∙ s.stays e
+  none_let_go k p v log false e s = ap (λ (j : ℕ). is_let_go (follow g (judges j) log v.at).fate) s.index
+      ∙ follower_stays g laws (judges k) start most hands k p v v log log s e
+
+  cuts_told : (vs : List (Running P)) (log : List Entry) (k : ℕ) (v : Running P) → slice_get vs k ≡ Some v
+      → cuts_of (map standing_of (News log vs)) k ≡ StopOf log v
+  cuts_told vs log k v h =
       let line = standing_of (followed g judges log v) in
-      let c = cuts_at (map standing_of (News log vs)) k line (map_at standing_of (News log vs) k (followed g judges log v) (map_at (followed g judges log) vs k v h)) in
+      cuts_at (map standing_of (News log vs)) k line (map_at standing_of (News log vs) k (followed g judges log v) (map_at (followed g judges log) vs k v h))
+
+  so_told : (vs : List (Running P)) (order : List ℕ) (log : List Entry) (over : Bool) → G vs order log over
+      → AreSo (cuts_of (map standing_of (News log vs))) vs
+  so_told vs order log over a k v h =
+      let f : Follower P = follow g (judges v.index) log v.at in
+      let p = some_at ps k (let y = within vs k v h in omega (arith, a.same)) in
+      let c = cuts_told vs log k v h ∙ stop_same f.fate f.seen (none_let_go k p.0 v log v.leading refl (a.each k p.0 v p.1 h)) in
       subst (λ (x : Option ℕ). Suits x v.at.fate v.at.seen) (sym c)
       (suits_by (cut_of f.fate f.seen) v.at f v.at.fate refl (suits_end f.fate f.seen) (follow_more g laws (judges v.index) log v.at) (λ z. fated_follow g laws (judges v.index) log v.at z))
 
   line_is : (cuts : ℕ → Option ℕ) (k : ℕ) (q : P) (u : Running P) (log : List Entry) (b : Bool) → u.leading ≡ b → Stands g hands (judges k) k q u log
+      → cuts k ≡ StopOf log u
       → told_standing g judges start most cuts hands log k (part_of q u) (told_by u b) ≡ standing_of (followed g judges log u)
-  line_is cuts k q u log true e s = ap (λ (x : Follower P). standing_of (record u { at = x })) (sym (fated_follow g laws (judges u.index) log u.at (off_some u.at.fate (s.ended e))))
-  line_is cuts k q u log false e s =
-      let t : track g (judges k) u.led log (fresh q) ≡ follow g (judges u.index) log u.at = track_from g laws (judges k) u.led log (fresh q) u.at (s.reach e) s.past
-      ∙ ap (λ (n : ℕ). follow g (judges n) log u.at) (sym s.index) in
+  line_is cuts k q u log true e s c = ap (λ (x : Follower P). standing_of (record u { at = x })) (sym (ended_follow k q u log e s))
+  line_is cuts k q u log false e s c =
+      let n : follow g (judges k) log u.at ≡ follow g (judges u.index) log u.at = ap (λ (j : ℕ). follow g (judges j) log u.at) (sym s.index) in
+      let none : cuts k ≡ None = c ∙ (ap (λ (x : Follower P). stop_of x.fate x.seen) (sym n)
+      ∙ tells g laws (judges k) start most hands k q u u log log s e (follow g (judges k) log u.at).seen) in
+      let t : tracked_by g judges start most cuts hands log k (part_of q u) ≡ follow g (judges u.index) log u.at =
+      tracks_whole g laws (judges k) start most hands k q u u log log s e (cuts k) (λ m h. never (cuts k) (length log) m none h) ∙ n in
       ap (λ (f : Follower P). record { fate = f.fate; seen = f.seen; led = u.led; rewrites = f.rewrites }) t
 
   lines_are : (cuts : ℕ → Option ℕ) (qs : List P) (us : List (Running P)) (i : ℕ) (log : List Entry) → length us ≡ length qs
       → ((k : ℕ) (q : P) (u : Running P) → slice_get qs k ≡ Some q → slice_get us k ≡ Some u → Stands g hands (judges (i + k)) (i + k) q u log)
+      → ((k : ℕ) (u : Running P) → slice_get us k ≡ Some u → cuts (i + k) ≡ StopOf log u)
       → lines_of g judges start most cuts hands log i (parts_of qs us) ≡ map standing_of (News log us)
-  lines_are cuts [] [] i log e s = refl
-  lines_are cuts [] (u ∷ us) i log e s = absurd (omega arith)
-  lines_are cuts (q ∷ qs) [] i log e s = absurd (omega arith)
-  lines_are cuts (q ∷ qs) (u ∷ us) i log e s =
+  lines_are cuts [] [] i log e s c = refl
+  lines_are cuts [] (u ∷ us) i log e s c = absurd (omega arith)
+  lines_are cuts (q ∷ qs) [] i log e s c = absurd (omega arith)
+  lines_are cuts (q ∷ qs) (u ∷ us) i log e s c =
       let n : i + 0 ≡ i = omega arith in
       let here = subst (λ (x : ℕ). Stands g hands (judges x) x q u log) n (s 0 q u refl refl) in
+      let cut : cuts i ≡ StopOf log u = ap cuts (sym n) ∙ c 0 u refl in
       let there = lines_are cuts qs us (i + 1) log (omega arith)
-      (λ k r w h m. let j : i + suc k ≡ i + 1 + k = omega arith in subst (λ (x : ℕ). Stands g hands (judges x) x r w log) j (s (suc k) r w h m)) in
-      λ j. line_is cuts i q u log u.leading refl here j ∷ there j
+      (λ k r w h m. let j : i + suc k ≡ i + 1 + k = omega arith in subst (λ (x : ℕ). Stands g hands (judges x) x r w log) j (s (suc k) r w h m))
+      (λ k w m. let j : i + 1 + k ≡ i + suc k = omega arith in ap cuts j ∙ c (suc k) w m) in
+      λ j. line_is cuts i q u log u.leading refl here cut j ∷ there j
 
   -- the account is the definition's, with the cuts that it tells
   pub account_is : (vs news : List (Running P)) (order : List ℕ) (log : List Entry) (over : Bool) → G vs order log over → Ended vs order over → news ≡ News log vs
@@ -244,8 +273,9 @@ module _ {P : Type 0} (g : Behaviour P) (laws : IsProcess g) (judges : ℕ → J
   account_is vs news order log over a z e =
       let cuts = cuts_of (map standing_of (News log vs)) in
       let m : Run P = run_of ps vs order log over in
-      let r = sequence_is g judges start most cuts hands ps m (a.reach cuts (so_told vs log)) (rests cuts m z) in
-      let l = lines_are cuts ps vs 0 log a.same (λ k q u h n. let i : k ≡ 0 + k = omega arith in subst (λ (x : ℕ). Stands g hands (judges x) x q u log) i (a.each k q u h n)) in
+      let r = sequence_is g judges start most cuts hands ps m (a.reach cuts (so_told vs order log over a)) (rests cuts m z) in
+      let l = lines_are cuts ps vs 0 log a.same (λ k q u h n. let i : k ≡ 0 + k = omega arith in subst (λ (x : ℕ). Stands g hands (judges x) x q u log) i (a.each k q u h n))
+      (λ k u n. let i : 0 + k ≡ k = omega arith in ap cuts i ∙ cuts_told vs log k u n) in
       let done : record { log = log; lines = map standing_of (News log vs) } ≡ sequence g judges start most cuts hands ps = ap (λ (x : List Standing). record { log = log; lines = x }) (sym l) ∙ r in
       subst (λ (x : List (Running P)). record { log = log; lines = map standing_of x } ≡ sequence g judges start most (cuts_of (map standing_of x)) hands ps) (sym e) done
 

@@ -1,6 +1,7 @@
 -- A run over its versions: each turn in code is a turn of the definition.
-use Rattle.std.proofs.Common.{◌≡◌, ◌≢◌, ◌∙◌, sym, ap, subst, refl, ℕ, ◌+◌, ◌<◌, ◌≤◌, ◌⊎◌, inl, inr, Bool, true, false, List, [], ◌∷◌, ◌++◌, length, take, set, Option, Some, None, arith, append-nil, length-append}
-use Rattle.std.specs.Prelude.{slice_get, not, ◌==◌}
+use Rattle.std.proofs.Common.{◌≡◌, ◌∙◌, sym, ap, subst, refl, ℕ, ◌<◌, ◌≤◌, ◌⊎◌, inl, inr, Bool, true, false, List, [], ◌∷◌, ◌++◌, length, take, set, Option, Some, None, arith, append-nil, length-append}
+use Rattle.std.specs.Prelude.{slice_get, not, ◌==◌, nat_lt}
+use Rattle.std.proofs.lemmas.Bool.Decides.{nat_tests}
 use Rattle.std.proofs.lemmas.Option.{same_Some}
 use Rattle.nv_calls.specs.Calls.{Entry}
 use Rattle.nv_calls.specs.Logs.{Start, live_after}
@@ -8,20 +9,19 @@ use Rattle.nv_threads.specs.Behaviours.{Behaviour, IsProcess}
 use Rattle.nv_replay.specs.declared.fate.Fate.{Fate}
 use Rattle.nv_replay.specs.declared.fate.Fate.TheVariants as fates
 use Rattle.nv_replay.specs.Follow.{Follower, Judge, follow, IsInStep, is_exited}
-use Rattle.nv_replay.specs.Lead.{Leader}
+use Rattle.nv_replay.specs.Lead.{Leader, is_cut, cut_of}
 use Rattle.nv_replay.specs.Hands.{has, is_handed}
 use Rattle.nv_replay.specs.Sequence.{is_going}
-use Rattle.nv_replay.specs.Monitor.{Run, begun, led_line, after_lead, with_span, leads_on, turn}
+use Rattle.nv_replay.specs.Monitor.{Run, begun, led_line, after_lead, with_span, tracked_by, leads_on, turn}
 use Rattle.nv_replay.specs.Version.{Running, leader_of, standing_of}
 use Rattle.nv_replay.proofs.Settled.{Reaches, reach_on}
 use Rattle.nv_replay.specs.Turns.{Suits}
 use Rattle.nv_sequence.specs.Passing.{HasLed, followed, given_up, turned_of}
 use Rattle.nv_sequence.specs.inner.Passing.{order_of, turn_goes_on}
 use Rattle.nv_replay.specs.Account as accounts
-use Rattle.nv_sequence.specs.declared.leading.Turned.TheVariants.{Exited}
 use Rattle.nv_replay.proofs.Numbers.{length_set, set_cases, set_same, get_set, get_other, IsDistinct, has_here, has_after, has_other, has_last, has_prefix, has_either, distinct_last, eq_self, eq_same}
-use Rattle.nv_replay.proofs.Rotating.{dropped, led}
-use Rattle.nv_sequence.proofs.Rounds.{told_by, part_of, parts_of, run_of, parts_at, parts_set, Stands, stands_on, has_led, tracks, passed, ended_leader, handed_over}
+use Rattle.nv_replay.proofs.Rotating.{dropped}
+use Rattle.nv_sequence.proofs.Rounds.{told_by, part_of, parts_of, run_of, parts_at, parts_set, Stands, stands_on, has_led, tracks_whole, no_cut, passed, ended_leader, handed_over}
 use Rattle.nv_sequence.proofs.Rounds as rounds
 use Rattle.nv_replay.proofs.Fates.{off_some, none_on}
 use Rattle.nv_sequence.proofs.Taking.{fated_follow}
@@ -51,6 +51,7 @@ order_off (Some (fates.Exited s)) order i h = refl
 order_off (Some (fates.Fault a b c)) order i h = refl
 order_off (Some (fates.Refused a b c d)) order i h = refl
 order_off (Some fates.Memory) order i h = refl
+order_off (Some fates.LetGo) order i h = refl
 
 pub goes_off : (f : Option Fate) → turn_goes_on (turned_of f) ≡ not (is_exited f)
 goes_off None = refl
@@ -58,6 +59,19 @@ goes_off (Some (fates.Exited s)) = refl
 goes_off (Some (fates.Fault a b c)) = refl
 goes_off (Some (fates.Refused a b c d)) = refl
 goes_off (Some fates.Memory) = refl
+goes_off (Some fates.LetGo) = refl
+
+-- a cut that isn't below a length
+beyond : (c : Option ℕ) (m n : ℕ) → ((k : ℕ) → k < m → is_cut c k ≡ false) → c ≡ Some n → m ≤ n
+beyond c m n h e = by_order (nat_lt n m) refl where
+  by_order : (b : Bool) → nat_lt n m ≡ b → m ≤ n
+  by_order true q =
+      let l : n < m = grind (arith, nat_tests) in
+      let z : true ≡ false = sym (eq_self n) ∙ (ap (λ (x : Option ℕ). is_cut x n) (sym e) ∙ h n l) in cc
+  by_order false q = grind (arith, nat_tests)
+
+pub never : (c : Option ℕ) (m n : ℕ) → c ≡ None → c ≡ Some n → m ≤ n
+never c m n h e = let z : None ≡ Some n = sym h ∙ e in cc
 
 module _ {P : Type 0} (g : Behaviour P) (laws : IsProcess g) (judges : ℕ → Judge) (start : Start) (most : ℕ) (hands : List ℕ) (ps : List P) where
   -- a run has come so far
@@ -132,14 +146,18 @@ module _ {P : Type 0} (g : Behaviour P) (laws : IsProcess g) (judges : ℕ → J
       let f : Follower P = follow g (judges i) log v.at in
       let we : w ≡ record v { at = f } = e ∙ ap (λ (n : ℕ). record v { at = follow g (judges n) log v.at }) s.index in
       let fx' : f.fate ≡ Some x = ap (λ (n : ℕ). (follow g (judges n) log v.at).fate) (sym s.index) ∙ fx in
-      let t = tracks g laws (judges i) start most hands i p v w log new_log s idle in
       let wf : w.at.fate ≡ Some x = ap (λ (y : Running P). y.at.fate) we ∙ fx' in
       let pw : part_of p w ≡ part_of p v = ap (part_of p) we ∙ rw idle refl in
       changed vs i order order log new_log [] false v w p a h hp (l ∙ sym (append-nil log)) (passed g laws (judges i) start most hands i p v w log new_log s idle we l st)
       (λ k n. inl n) (λ k n. n) (λ n. let z : Some x ≡ None = sym wf ∙ n in cc) a.distinct.1 (let q = a.short in omega arith) (λ z. cc)
-      (λ cuts so. (
+      (λ cuts so.
+      let own = so i w (get_set vs i v w h) in
+      let none : cuts i ≡ None = own.end (ap is_going wf) ∙ (ap (λ (y : Running P). cut_of y.at.fate y.at.seen) we
+      ∙ no_cut g laws (judges i) start most hands i p v w log new_log s idle f.seen) in
+      let t : tracked_by g judges start most cuts hands log i (part_of p v) ≡ f =
+      tracks_whole g laws (judges i) start most hands i p v w log new_log s idle (cuts i) (λ n e. never (cuts i) (length log) n none e) in (
         λ k y q. so_by cuts vs i v w h so
-            (suits_by (cuts i) v.at w.at v.at.fate refl (so i w (get_set vs i v w h))
+            (suits_by (cuts i) v.at w.at v.at.fate refl own
             (subst (λ (u : Running P). v.at.seen ≤ u.at.seen) (sym we) (follow_more g laws (judges i) log v.at))
             (λ z. ap (λ (u : Running P). u.at) we ∙ fated_follow g laws (judges i) log v.at z)) k y (i == k) refl q,
         dropped g judges start most cuts hands (run_of ps vs (i ∷ order) log false) i order (part_of p v) x refl refl (parts_at ps vs i p v hp h)
@@ -220,7 +238,6 @@ module _ {P : Type 0} (g : Behaviour P) (laws : IsProcess g) (judges : ℕ → J
       let s = a.each i p v hp h in
       let idle = a.waits i v h (has_here i order) in
       let f : Follower P = follow g (judges i) log v.at in
-      let t = tracks g laws (judges i) start most hands i p v e log new_log s idle in
       let ld = has_led g laws (judges i) start most hands i p v e log new_log s idle e n d in
       let m : Run P = run_of ps vs (i ∷ order) log false in
       let more_seen : v.at.seen ≤ e.at.seen = omega (arith, follow_more g laws (judges i) log v.at, ld.seen, d.on.seen, ap length ld.longer, length-append log ld.more) in
@@ -235,6 +252,10 @@ module _ {P : Type 0} (g : Behaviour P) (laws : IsProcess g) (judges : ℕ → J
       let own = so i (given_up e) (get_set vs i v (given_up e) h) in
       let own' : Suits (cuts i) e.at.fate (length new_log) = subst (λ (x : ℕ). Suits (cuts i) e.at.fate x) d.on.seen own in
       let lw : leads_on g judges start most cuts hands log i f ≡ leader_of e new_log = sym (ld.whole (cuts i) own') in
+      let shorter : length log ≤ length new_log = omega (arith, ap length ld.longer, length-append log ld.more) in
+      let t : tracked_by g judges start most cuts hands log i (part_of p v) ≡ f =
+      tracks_whole g laws (judges i) start most hands i p v e log new_log s idle (cuts i)
+      (λ c q. beyond (cuts i) (length log) c (λ k l. own'.below k (omega arith)) q) in
       let T = rounds.turn_led g judges start most cuts hands ps vs i order log p v h hp f t n in (
         λ k y q. so_by cuts vs i v (given_up e) h so (suits_by (cuts i) v.at e.at v.at.fate refl own more_seen on_before) k y (i == k) refl q,
         T ∙ (ap (λ (l : Leader P). after_lead m i order (part_of p v) f l (is_handed hands (length log) l)) lw

@@ -1,5 +1,5 @@
 -- A log that has grown.
-use Rattle.std.proofs.Common.{◌≡◌, ◌∙◌, sym, ap, subst, List, [], ◌++◌, append-nil, append_assoc}
+use Rattle.std.proofs.Common.{◌∙◌, sym, ap, subst, List, [], ◌++◌, append-nil, append_assoc}
 use Rattle.nv_calls.specs.Calls.{Entry}
 use Rattle.nv_calls.specs.Logs.{IsLegal, Start}
 use Rattle.nv_served.proofs.LearningLaws.{legal_front}

@@ -1,16 +1,15 @@
 -- The turn of the order's first.
-use Rattle.std.proofs.Common.{◌≡◌, ◌∙◌, sym, ap, subst, refl, ℕ, zero, suc, ◌+◌, ◌<◌, Bool, true, false, List, [], ◌∷◌, ◌++◌, length, get_or, set, Option, Some, None, arith}
-use Rattle.std.specs.Prelude.{slice_get, ◌==◌, slice_index_or, remove}
+use Rattle.std.proofs.Common.{◌≡◌, sym, subst, ℕ, ◌<◌, Bool, false, List, [], ◌∷◌, length, get_or, set}
+use Rattle.std.specs.Prelude.{◌==◌, slice_index_or, remove}
 use Rattle.std.proofs.lemmas.Option.{slice_get-get_or}
 use Rattle.nv_calls.specs.Calls.{Entry}
 use Rattle.nv_calls.specs.Logs.{Start}
 use Rattle.nv_threads.specs.Behaviours.{Behaviour}
-use Rattle.nv_replay.specs.declared.fate.Fate.{Fate}
-use Rattle.nv_replay.specs.Follow.{Judge, Follower, follow}
+use Rattle.nv_replay.specs.Follow.{Judge, follow}
 use Rattle.nv_replay.specs.Version.{Running}
 use Rattle.nv_replay.proofs.Falling.{within}
 use Rattle.nv_sequence.specs.declared.leading.Turned.{Turned}
-use Rattle.nv_sequence.specs.Passing.{TurnDone, MayHaveTurn, followed}
+use Rattle.nv_sequence.specs.Passing.{TurnDone, followed}
 use Rattle.nv_sequence.specs.inner.Passing.{FirstMayHaveTurn, HadTurn, NextTurn, order_of, turn_goes_on}
 
 pub first_of : (items : List ℕ) (first : ℕ) (rest : List ℕ) → (length items == 0) ≡ false → first ≡ slice_index_or items 0 first → rest ≡ remove items 0

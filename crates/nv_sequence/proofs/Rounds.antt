@@ -1,37 +1,34 @@
 -- A run, turn by turn: how the versions stand to the log, and where the definition has come to.
-use Rattle.std.proofs.Common.{◌≡◌, ◌≢◌, ◌∙◌, sym, ap, subst, refl, ℕ, zero, suc, ◌+◌, ◌<◌, ◌≤◌, ◌⊎◌, inl, inr, Bool, true, false, List, [], ◌∷◌, ◌++◌, length, take, map, set, Option, Some, None, arith, length-append}
-use Rattle.std.specs.Prelude.{slice_get, not, ◌==◌}
+use Rattle.std.proofs.Common.{◌≡◌, ◌∙◌, sym, ap, subst, refl, ℕ, zero, suc, ◌+◌, ◌≤◌, Bool, true, false, List, [], ◌∷◌, ◌++◌, length, set, Option, Some, None, arith, length-append}
+use Rattle.std.specs.Prelude.{slice_get, not}
 use Rattle.nv_calls.specs.Calls.{Entry}
-use Rattle.nv_calls.specs.Logs.{Start, live_after}
+use Rattle.nv_calls.specs.Logs.{Start}
 use Rattle.nv_threads.specs.Behaviours.{Behaviour, IsProcess}
 use Rattle.nv_replay.specs.declared.fate.Fate.{Fate}
 use Rattle.nv_replay.specs.declared.standing.Standing.{Standing}
 use Rattle.nv_replay.specs.Spans.{EndBy}
-use Rattle.nv_replay.specs.Settling.{stage}
-use Rattle.nv_replay.specs.Follow.{Follower, Judge, fresh, follow, IsInStep, is_exited}
-use Rattle.nv_replay.specs.Lead.{Leader, is_cut, cut_of, next_call}
+use Rattle.nv_replay.specs.Follow.{Follower, Judge, fresh, follow, IsInStep}
+use Rattle.nv_replay.specs.Lead.{Leader, cut_of, next_call}
 use Rattle.nv_replay.specs.Tracks.{track, track_next}
-use Rattle.nv_replay.specs.Hands.{has, count_above, is_handed, lead_to_hand}
+use Rattle.nv_replay.specs.Hands.{count_above, is_handed, lead_to_hand}
 use Rattle.nv_replay.specs.Sequence.{is_going}
-use Rattle.nv_replay.specs.Monitor.{Part, Run, begun, led_line, after_lead, with_span, leads_on, turn}
+use Rattle.nv_replay.specs.LettingGo.{is_let_go, stop_of, front, let_go}
+use Rattle.nv_replay.specs.Monitor.{Part, Run, after_lead, tracked_by, leads_on, turn}
 use Rattle.nv_replay.specs.Version.{Running, leader_of, standing_of}
-use Rattle.nv_replay.proofs.Settled.{Reaches, reach_on}
+use Rattle.nv_replay.proofs.Settled.{Reaches}
 use Rattle.nv_replay.proofs.Extending.{follow_reached, in_step_on, reach_all}
 use Rattle.nv_replay.specs.Turns.{Suits}
-use Rattle.nv_sequence.specs.Passing.{HasLed, HadLead, TurnDone, followed, given_up, turned_of}
-use Rattle.nv_sequence.specs.inner.Passing.{HadTurn, NextTurn, order_of, turn_goes_on}
+use Rattle.nv_sequence.specs.Passing.{HasLed, given_up}
 use Rattle.nv_replay.specs.Account as accounts
-use Rattle.nv_sequence.specs.declared.leading.Turned.{Turned}
-use Rattle.nv_sequence.specs.declared.leading.Turned.TheVariants.{Left, GaveUp, Exited}
-use Rattle.nv_replay.proofs.Numbers.{above_later, above_less, handed_at, get_set, length_set, set_cases, set_same, some_at, IsDistinct, has_here, has_after, has_other, has_last, has_prefix, has_either, distinct_last, eq_self}
+use Rattle.nv_replay.proofs.Numbers.{above_later, above_less, handed_at}
 use Rattle.nv_replay.proofs.Tracking.{track_extended, track_from, stage_after, ends_later, followed_seen, follow_more}
 use Rattle.nv_replay.proofs.Stretches.{hand_leads, hand_grows}
 use Rattle.nv_replay.proofs.Handing.{hands_over}
-use Rattle.nv_replay.proofs.Rotating.{dropped, led}
+use Rattle.nv_replay.proofs.LettingGo.{uncut}
+use Rattle.nv_replay.proofs.Stops.{stop_same, tells_stays, lead_stays, track_tells}
+use Rattle.nv_replay.proofs.Rotating.{led}
 use Rattle.nv_replay.proofs.Spanning.{span_end}
 use Rattle.nv_replay.proofs.Fates.{off_some}
-use Rattle.nv_sequence.proofs.Taking.{fated_follow}
-use Rattle.nv_replay.proofs.Turning.{take_all}
 use Rattle.nv_replay.proofs.Wholly.{suits_end}
 
 abbrev pub told_by : {P : Type 0} → Running P → Bool → Option Standing
@@ -72,6 +69,8 @@ module _ {P : Type 0} (g : Behaviour P) (hands : List ℕ) where
     pub index : v.index ≡ k
     pub asked : v.leading ≡ false → v.asked ≡ None
     pub ended : v.leading ≡ true → is_going v.at.fate ≡ false
+    -- a leader is never let go
+    pub stays : v.leading ≡ true → is_let_go v.at.fate ≡ false
     pub reach : v.leading ≡ false → Reaches (track_next g judge v.led log) (fresh p) v.at
     pub past : EndBy v.at.seen v.led
     pub in_step : IsInStep g log v.at
@@ -83,6 +82,7 @@ module _ {P : Type 0} (g : Behaviour P) (hands : List ℕ) where
     index = s.index;
     asked = s.asked;
     ended = s.ended;
+    stays = s.stays;
     reach = λ h. let r = s.reach h in track_extended g judge v.led log more r.steps (fresh p) v.at r.is;
     past = s.past;
     in_step = in_step_on g log more v.at s.in_step;
@@ -108,6 +108,20 @@ module _ {P : Type 0} (g : Behaviour P) (laws : IsProcess g) (judge : Judge) (st
   pub tracks : track g judge v.led log (fresh p) ≡ f
   tracks = track_from g laws judge v.led log (fresh p) v.at (s.reach idle) s.past
 
+  -- at a cut that isn't within the log
+  pub tracks_whole : (c : Option ℕ) → ((n : ℕ) → c ≡ Some n → length log ≤ n) → let_go c log (track g judge v.led (front c log) (fresh p)) ≡ f
+  tracks_whole c h = uncut c log (λ (l : List Entry). track g judge v.led l (fresh p)) h ∙ tracks
+
+  -- as a follower it tells no cut
+  pub tells : (n : ℕ) → stop_of f.fate n ≡ None
+  tells n = ap (λ (x : Follower P). stop_of x.fate n) (sym follows.is) ∙ track_tells g judge n v.led log follows.steps (fresh p) refl
+
+  pub follower_stays : is_let_go f.fate ≡ false
+  follower_stays = tells_stays f.fate 0 (tells 0)
+
+  pub no_cut : (n : ℕ) → cut_of f.fate n ≡ None
+  no_cut n = sym (stop_same f.fate n follower_stays) ∙ tells n
+
   -- it has ended as a follower
   pub passed : w ≡ u → new_log ≡ log → IsInStep g log w.at → Stands g hands judge k p w new_log
   passed e l i =
@@ -117,6 +131,7 @@ module _ {P : Type 0} (g : Behaviour P) (laws : IsProcess g) (judge : Judge) (st
         index = s.index;
         asked = s.asked;
         ended = λ h. let z : false ≡ true = sym idle ∙ h in cc;
+        stays = λ h. let z : false ≡ true = sym idle ∙ h in cc;
         reach = λ h. follows;
         past = ends_later v.led v.at.seen f.seen s.past more_seen;
         in_step = i';
@@ -163,6 +178,15 @@ module _ {P : Type 0} (g : Behaviour P) (laws : IsProcess g) (judge : Judge) (st
       let b : EndBy (length new_log) (v.led ++ (length log, length new_log) ∷ []) = span_end v.led v.at.seen (length log) (length new_log) s.past a in
       subst (λ (x : ℕ). EndBy x e.led) (sym n) (subst (λ (x : List (ℕ × ℕ)). EndBy (length new_log) x) (sym d.led) b)
 
+  hand_stays : (c : Option ℕ) (l : Leader P) → is_let_go l.fate ≡ false → is_let_go (lead_to_hand g start most c hands (length log) l).fate ≡ false
+  unfolding lead_to_hand
+  hand_stays c l h = lead_stays g start most c hands (length log) (g.calls_left l.process + 1) l h
+
+  leader_stays : (e : Running P) → Led e → is_let_go e.at.fate ≡ false
+  leader_stays e d =
+      let c = suits_own e.at.fate (length new_log) in
+      ap (λ (x : Leader P). is_let_go x.fate) (d.whole c.0 c.1) ∙ hand_stays c.0 (record { process = f.process; log = log; fate = None }) refl
+
   -- it has ended as the leader
   pub ended_leader : (e : Running P) → Led e → HasLed g start most hands (accounts.with_span u (length log)) e log new_log → is_going e.at.fate ≡ false
       → Stands g hands judge k p (given_up e) new_log
@@ -171,6 +195,7 @@ module _ {P : Type 0} (g : Behaviour P) (laws : IsProcess g) (judge : Judge) (st
         index = h.on.index ∙ s.index;
         asked = λ z. let y : true ≡ false = sym yes_leading ∙ z in cc;
         ended = λ z. o;
+        stays = λ z. leader_stays e d;
         reach = λ z. let y : true ≡ false = sym yes_leading ∙ z in cc;
         past = ends_at e d h.on.seen;
         in_step = h.on.in_step;
@@ -193,6 +218,7 @@ module _ {P : Type 0} (g : Behaviour P) (laws : IsProcess g) (judge : Judge) (st
         index = h.on.index ∙ s.index;
         asked = λ z. h.on.asked o;
         ended = λ z. let y : false ≡ true = sym (ap (λ (x : Option Fate). not (is_going x)) o) ∙ z in cc;
+        stays = λ z. leader_stays e d;
         reach = λ z. subst (λ (x : List (ℕ × ℕ)). Reaches (track_next g judge x new_log) (fresh p) e.at) (sym d.led) b;
         past = ends_at e d h.on.seen;
         in_step = h.on.in_step;
@@ -204,7 +230,7 @@ module _ {P : Type 0} (g : Behaviour P) (laws : IsProcess g) (judge : Judge) (st
 -- the turn of the definition, where the version goes on over the log
 pub turn_led : {P : Type 0} (g : Behaviour P) (judges : ℕ → Judge) (start : Start) (most : ℕ) (cuts : ℕ → Option ℕ) (hands : List ℕ) (ps : List P) (vs : List (Running P))
     (i : ℕ) (order : List ℕ) (log : List Entry) (p : P) (v : Running P) → slice_get vs i ≡ Some v → slice_get ps i ≡ Some p
-    → (f : Follower P) → track g (judges i) v.led log (fresh p) ≡ f → f.fate ≡ None
+    → (f : Follower P) → tracked_by g judges start most cuts hands log i (part_of p v) ≡ f → f.fate ≡ None
     → turn g judges start most cuts hands (run_of ps vs (i ∷ order) log false)
     ≡ after_lead (run_of ps vs (i ∷ order) log false) i order (part_of p v) f (leads_on g judges start most cuts hands log i f)
     (is_handed hands (length log) (leads_on g judges start most cuts hands log i f))

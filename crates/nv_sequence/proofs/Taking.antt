@@ -1,16 +1,13 @@
 -- A version's turn, by what became of it.
-use Rattle.std.proofs.Common.{◌≡◌, ◌≢◌, ◌∙◌, inr, sym, ap, subst, refl, ℕ, ◌<◌, Bool, true, false, List, [], ◌∷◌, ◌++◌, length, Option, Some, None}
+use Rattle.std.proofs.Common.{◌≡◌, sym, ap, ℕ, true, List, Option, Some, None}
 use Rattle.std.specs.Option.{is_some}
 use Rattle.nv_calls.specs.Calls.{Entry}
-use Rattle.nv_calls.specs.Logs.{Start}
 use Rattle.nv_threads.specs.Behaviours.{Behaviour, IsProcess}
 use Rattle.nv_replay.specs.declared.fate.Fate.{Fate}
-use Rattle.nv_replay.specs.Follow.{Judge, Follower, follow, follow_next, no_rules}
-use Rattle.nv_replay.specs.Version.{Running, IsLiveLeader}
+use Rattle.nv_replay.specs.Follow.{Judge, Follower, follow}
+use Rattle.nv_replay.specs.Version.{Running}
 use Rattle.nv_replay.proofs.Fates.{fate_if}
 use Rattle.nv_replay.proofs.Fates as fates
-use Rattle.nv_sequence.specs.declared.leading.Turned.{Turned}
-use Rattle.nv_sequence.specs.declared.leading.Turned.TheVariants.{Left, GaveUp, Exited}
 use Rattle.nv_sequence.specs.Passing.{followed}
 
 some_of : (o f : Option Fate) → is_some o ≡ true → o ≡ f → (f ≡ None → ⊥)

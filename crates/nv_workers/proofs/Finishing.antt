@@ -18,7 +18,8 @@ use Rattle.nv_room.specs.Spans.{Before, of_version, IsLastStation, Opened}
 use Rattle.nv_room.specs.Seats.{IsLeftOf, left_view, version_of_left, versions_of, hands_of, on_demand_of, first_view}
 use Rattle.nv_room.specs.Lefts.{IsEach, TellsOf, AllTell}
 use Rattle.nv_threads.specs.Threads.{Proc, threads}
-use Rattle.nv_replay.specs.Version.{Running}
+use Rattle.nv_replay.specs.LettingGo.{NoneLetGo}
+use Rattle.nv_replay.specs.Version.{Running, standing_of}
 use Rattle.nv_replay.specs.Account.{AreFresh}
 use Rattle.nv_workers.specs.declared.worker.Seat.{Seat}
 use Rattle.nv_workers.specs.declared.worker.Seat.TheVariants.{Reading, Leading, Gone, Moving}
@@ -205,6 +206,15 @@ module _ (judges : ℕ → Judge) {K : Type 0} {G : Ghosts K} (room : Room K) (m
         let at : version_of_left x.0 ≡ k = (let q = (left_at 0 fs vs ls a.ran k x.0 x.1).1 in omega arith) in
         subst (λ (w : View K). IsTold history t.spans t.seating k w) (sym (view_here d ls k x.0 x.1)) (told_one history counts t.spans t.seating k x.0 at (t.each k x.0 x.1));
   }
+
+  -- where leaders don't hand over on demand, no version was let go
+  pub none_let_go : (i : ℕ) (fs vs : List (Running Proc)) (ls : List (Left K G)) → HaveRun judges room most i fs vs ls → on_demand_of room ≡ false → NoneLetGo (map standing_of vs)
+  none_let_go i [] [] [] r off = tt
+  none_let_go i [] [] (l ∷ ls) r off = absurd r
+  none_let_go i [] (v ∷ vs) ls r off = absurd r
+  none_let_go i (f ∷ fs) [] ls r off = tt
+  none_let_go i (f ∷ fs) (v ∷ vs) [] r off = absurd r
+  none_let_go i (f ∷ fs) (v ∷ vs) (l ∷ ls) r off = (r.0.ended.stays off, none_let_go (i + 1) fs vs ls r.1 off)
 
   -- what `end` promises
   pub accounted : {fs vs : List (Running Proc)} {ls : List (Left K G)} → AllRan judges room most fs vs ls → (start : Start) (h : List Entry) {counts : List ℕ}

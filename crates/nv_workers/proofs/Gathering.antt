@@ -13,7 +13,6 @@ use Rattle.nv_replay.specs.Monitor.{Part, Run, begun, after_lead, tracked_by, le
 use Rattle.nv_replay.proofs.Settled.{Reaches, reach_here, reach_first, stage_rests}
 use Rattle.nv_workers.proofs.Stations.{SpanFrom, Tile, WentBy, LedBy, after_station, AreSeats}
 use Rattle.nv_workers.proofs.Prefixes.{prefix_of, no_more, take_own, take_within, stop_by}
-use Rattle.nv_replay.proofs.Tracking.{track_ended}
 use Rattle.nv_replay.proofs.Rotating.{over_rests, empty_rests, dropped, led, sequence_is}
 use Rattle.nv_replay.proofs.Turning.{take_all}
 
@@ -113,8 +112,7 @@ module _ {P : Type 0} (g : Behaviour P) (laws : IsProcess g) (judges : ℕ → J
       }
   went m last more k i order v w false ov e l o q r =
       let f = prefix_of w.read m.log w.rest more (sym w.prefix ∙ e) l in
-      let a : w.at ≡ tracks m.log i v = subst (λ (y : List Entry). w.at ≡ tracks y i v) (sym f.1)
-      (track_ended g laws (judges i) v.led v.process w.at w.read f.0 (record { steps = w.steps; is = w.reach }) w.ended) in
+      let a : w.at ≡ tracks m.log i v = subst (λ (y : List Entry). w.at ≡ tracks y i v) (sym f.1) (sym (w.is f.0)) in
       let x = some_of w.at.fate w.ended in
       let t = dropped g judges start most cuts hands m i order v x.0 ov o q (ap (λ (y : Follower P). y.fate) (sym a) ∙ x.1) in record {
         end = r.end;

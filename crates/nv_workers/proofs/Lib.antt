@@ -6,6 +6,7 @@ pub mod Spanned
 pub mod Opening
 pub mod Accounting
 pub mod Asked
+pub mod LettingGo
 pub mod Told
 pub mod Closed
 pub mod Spelt

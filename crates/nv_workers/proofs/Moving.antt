@@ -21,7 +21,7 @@ use Rattle.nv_threads.specs.Threads.{Proc, threads}
 use Rattle.nv_threads.proofs.ThreadLaws.{thread_laws}
 use Rattle.nv_replay.specs.Follow.{Follower, Judge}
 use Rattle.nv_replay.specs.Hands.{has}
-use Rattle.nv_replay.specs.Version.{Running, IsFresh, IsFollowing, IsLiveLeader, leader_of}
+use Rattle.nv_replay.specs.Version.{Running, IsFresh, IsFollowing, IsLiveLeader}
 use Rattle.nv_replay.specs.Account.{with_span}
 use Rattle.nv_replay.proofs.Numbers.{eq_same}
 use Rattle.nv_workers.specs.Ends.{ends_of, AreHandedOn, AsPlanned}
@@ -159,13 +159,13 @@ module _ {judges : ℕ → Judge} {T : Type 0} {most : ℕ} {hands : List ℕ} {
   -- of a reader
   pub left_ended : j ≡ i → w2 ≡ as_gone w → HasEnded judges most hands on_demand j p v w2
   left_ended same is =
-      let gone : HasEnded judges most hands on_demand i p v (as_gone w) = record { log = h.log; spelt = h.spelt; lawful = h.lawful; count = h.count; led = h.led; as_planned = h.as_planned; done = h.done } in
+      let gone : HasEnded judges most hands on_demand i p v (as_gone w) = record { log = h.log; spelt = h.spelt; lawful = h.lawful; count = h.count; led = h.led; as_planned = h.as_planned; stays = h.stays; done = h.done } in
       subst (λ (k : ℕ). HasEnded judges most hands on_demand k p v w2) (sym same) (subst (λ (x : View T). HasEnded judges most hands on_demand i p v x) (sym is) gone)
 
   -- of a leader
   pub given_ended : j ≡ i → (word : ℕ) → w2 ≡ as_gone (as_leaving w word) → HasEnded judges most hands on_demand j p v w2
   given_ended same word is =
-      let gone : HasEnded judges most hands on_demand i p v (as_gone (as_leaving w word)) = record { log = h.log; spelt = h.spelt; lawful = h.lawful; count = h.count; led = h.led; as_planned = h.as_planned; done = h.done } in
+      let gone : HasEnded judges most hands on_demand i p v (as_gone (as_leaving w word)) = record { log = h.log; spelt = h.spelt; lawful = h.lawful; count = h.count; led = h.led; as_planned = h.as_planned; stays = h.stays; done = h.done } in
       subst (λ (k : ℕ). HasEnded judges most hands on_demand k p v w2) (sym same) (subst (λ (x : View T). HasEnded judges most hands on_demand i p v x) (sym is) gone)
 
 -- Workers as they are made

@@ -105,7 +105,7 @@ module _ {P : Type 0} (g : Behaviour P) (judges : ℕ → Judge) (start : Start)
   went_as k i v u a b w =
       let x : WentBy g judges start most cuts hands h spans total k i (record v { told = u.told }) = subst (λ (y : Part P). WentBy g judges start most cuts hands h spans total k i y)
       (λ j. record { process = a j; led = b j; told = u.told }) w in
-      record { read = x.read; rest = x.rest; prefix = x.prefix; none = x.none; below = x.below; at = x.at; steps = x.steps; reach = x.reach; ended = x.ended }
+      record { read = x.read; rest = x.rest; prefix = x.prefix; none = x.none; below = x.below; at = x.at; is = x.is; ended = x.ended }
 
   led_as : (k i : ℕ) (v u : Part P) → u.process ≡ v.process → u.led ≡ v.led → (x : LedBy g judges start most cuts hands h spans total k i u)
       → (y : LedBy g judges start most cuts hands h spans total k i v) × (y.from ≡ x.from) × (y.end ≡ x.end) × (y.log ≡ x.log)

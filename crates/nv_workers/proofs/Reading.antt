@@ -17,6 +17,9 @@ use Rattle.nv_room.specs.Seats.{IsOfRoom, SameReader, view, version_of_reader, h
 use Rattle.nv_threads.specs.Threads.{Proc, threads}
 use Rattle.nv_threads.proofs.ThreadLaws.{thread_laws}
 use Rattle.nv_replay.specs.declared.fate.Fate.{Fate}
+use Rattle.nv_replay.specs.declared.fate.Fate.TheVariants.{LetGo}
+use Rattle.nv_replay.specs.LettingGo.{is_let_go, stop_of}
+use Rattle.nv_replay.proofs.Stops.{tells_stays, track_tells}
 use Rattle.nv_rules.specs.declared.outcome.Verdict.{Verdict}
 use Rattle.nv_replay.specs.declared.version.Followed.{Followed}
 use Rattle.nv_replay.specs.declared.version.Followed.TheVariants.{Matched, Rewrote, Skipped, Took, Dropped}
@@ -27,9 +30,9 @@ use Rattle.nv_replay.specs.Version.{Running}
 use Rattle.nv_replay.proofs.Turning.{get_last}
 use Rattle.nv_replay.proofs.Extending.{take_prefix_of}
 use Rattle.nv_replay.proofs.Survivor.{lawful_prefix}
-use Rattle.nv_workers.specs.Ends.{IsStage, ends_of, AreHandedOn, AsPlanned}
+use Rattle.nv_workers.specs.Ends.{IsStage, ends_of, AreHandedOn, AreHandedBy, AsPlanned}
 use Rattle.nv_workers.specs.Turns.{held_list, IsReaders}
-use Rattle.nv_workers.specs.Working.{HoldsNext, HasEnded, FollowsOn}
+use Rattle.nv_workers.specs.Working.{HoldsNext, HasEnded, FollowsOn, HasFound}
 use Rattle.nv_workers.specs.Follows.{AfterTurn, IsWaiting}
 use Rattle.nv_workers.specs.declared.follows.Next.{Next}
 use Rattle.nv_workers.specs.declared.follows.Next.TheVariants.{Moved, Ahead, Waits, Leads, Hands, Leaves, Left}
@@ -164,6 +167,10 @@ module _ {judges : ℕ → Judge} {most : ℕ} {hands : List ℕ} {on_demand : B
     stage_now : IsStage (track_next threads (judges i) new.led (h.log ++ h.event ∷ [])) (fresh p) new.at
     stage_now = (decides threads thread_laws judges (as_told h.log) most hands h.event held_reading (inr refl) h.lawful k).0
 
+    stays_now : is_let_go new.at.fate ≡ false
+    stays_now = tells_stays new.at.fate 0 (ap (λ (x : Follower Proc). stop_of x.fate 0) (sym stage_now.is)
+        ∙ track_tells threads (judges i) 0 new.led (h.log ++ h.event ∷ []) stage_now.steps (fresh p) refl)
+
     idle_now : new.leading ≡ false
     idle_now = ap (λ (x : Running Proc). x.leading) k ∙ held_reading.idle
 
@@ -179,6 +186,7 @@ module _ {judges : ℕ → Judge} {most : ℕ} {hands : List ℕ} {on_demand : B
       count = omega (arith, n, held_reading.seen, long_seen, length-append w.seen (w.read ∷ []));
       led = led_now;
       as_planned = h.as_planned;
+      stays = λ off. stays_now;
       done = λ start legal. record {
         ended = e;
         count = omega (arith, n, held_reading.seen, length-append h.log (h.event ∷ []));
@@ -201,6 +209,7 @@ module _ {judges : ℕ → Judge} {most : ℕ} {hands : List ℕ} {on_demand : B
       count = n ∙ (held_reading.seen ∙ sym long_seen);
       led = led_now;
       as_planned = h.as_planned;
+      stays = λ off. stays_now;
       done = λ start legal. record {
         ended = e;
         count = n ∙ held_reading.seen;
@@ -209,7 +218,7 @@ module _ {judges : ℕ → Judge} {most : ℕ} {hands : List ℕ} {on_demand : B
           idle = idle_now;
           handed_on = h.handed_on;
           handed = parts_still threads thread_laws judges start most hands h.event (h.reading start legal) (inr refl) h.lawful k;
-          stage = inr (record { event = h.event; fit = may.range; words = h.read; stage = stage_now });
+          stage = inr (inl (record { event = h.event; fit = may.range; words = h.read; stage = stage_now }));
         });
       };
     }
@@ -323,21 +332,89 @@ module _ {judges : ℕ → Judge} {K : Type 0} {G : Ghosts K} {room : Room K} {m
     found_waiting buf2 read Leaves w = absurd w
     found_waiting buf2 read Left w = absurd w
 
-    pub found_event : (words : List ℕ) → (view r2).read ≡ words → SpellLawful ((view r2).seen ++ words ∷ []) → FollowsOn judges room most p v r2 true words
+    pub found_event : (words : List ℕ) → (view r2).read ≡ words → SpellLawful ((view r2).seen ++ words ∷ []) → HasFound judges room most p v r2 words
     found_event words read tells =
         let spelt : map spell bare.log ≡ (view r2).seen = bare.spelt ∙ sym seen in
         let n = read_next bare.log (view r2).seen spelt bare.lawful words tells in
-        let reading : FromAny bare.log (λ start. IsReaders threads judges start most (hands_of room) (version_of_reader r) p v bare.log (Some n.0)) = λ start legal.
-        with_next_held threads thread_laws judges start most (hands_of room) n.0 (bare.reading start legal) in
         record {
           of = of;
           log = bare.log;
-          next = Some n.0;
+          event = n.0;
           spelt = spelt;
           lawful = n.2;
-          holds = (read ∙ sym n.1, sym n.1);
+          read = read ∙ sym n.1;
+          words = sym n.1;
           led = bare.led ∙ sym (ap (map ends_of) spans);
           handed_on = subst AreHandedOn (sym spans) bare.handed_on;
           as_planned = subst (AsPlanned (on_demand_of room) (hands_of room)) (sym spans) bare.as_planned;
-          reading = subst (λ (i : ℕ). FromAny bare.log (λ start. IsReaders threads judges start most (hands_of room) i p v bare.log (Some n.0))) (sym same.3) reading;
+          reading = subst (λ (i : ℕ). FromAny bare.log (λ start. IsReaders threads judges start most (hands_of room) i p v bare.log None)) (sym same.3) bare.reading;
         }
+
+-- a version whose reader has found the next event
+module _ {judges : ℕ → Judge} {K : Type 0} {G : Ghosts K} {room : Room K} {most : ℕ} {p : Proc} {v : Running Proc} {r : Reader K G} {buf : List ℕ}
+    (f : HasFound judges room most p v r buf) where
+  -- it goes on, and decides
+  pub found_on : FollowsOn judges room most p v r true buf
+  found_on = record {
+    of = f.of;
+    log = f.log;
+    next = Some f.event;
+    spelt = f.spelt;
+    lawful = f.lawful;
+    holds = (f.read, f.words);
+    led = f.led;
+    handed_on = f.handed_on;
+    as_planned = f.as_planned;
+    reading = λ start legal. with_next_held threads thread_laws judges start most (hands_of room) f.event (f.reading start legal);
+  }
+
+  -- what holds from whatever start
+  found_front : IsLawful f.log
+  found_front = lawful_prefix f.log (f.event ∷ []) f.lawful
+
+  found_reading : IsReaders threads judges (as_told f.log) most (hands_of room) (version_of_reader r) p v f.log None
+  found_reading = f.reading (as_told f.log) (legal_told f.log found_front)
+
+  pub found_idle : (v.at.fate ≡ None) × (v.leading ≡ false)
+  found_idle = (found_reading.on, found_reading.idle)
+
+  -- it is let go before the event
+  pub found_let_go : (new : Running Proc) → new ≡ record v { at = record v.at { fate = Some LetGo } } → on_demand_of room ≡ true
+      → HasEnded judges most (hands_of room) (on_demand_of room) (version_of_reader r) p new (view r)
+  found_let_go new k on =
+      let at : new.at ≡ record v.at { fate = Some LetGo } = ap (λ (x : Running Proc). x.at) k in
+      let led : new.led ≡ v.led = ap (λ (x : Running Proc). x.led) k in
+      let seen : new.at.seen ≡ length f.log = ap (λ (x : Follower Proc). x.seen) at ∙ found_reading.seen in
+      let may = f.lawful (length f.log) f.event (get_last f.log f.event) in
+      record {
+        log = f.log;
+        spelt = f.spelt;
+        lawful = found_front;
+        count = seen ∙ (sym (long_as f.log) ∙ ap (λ (x : List (List ℕ)). length x) f.spelt);
+        led = led ∙ f.led;
+        as_planned = f.as_planned;
+        stays = λ off. let z : true ≡ false = sym on ∙ off in cc;
+        done = λ start legal.
+            let was = f.reading start legal in
+            record {
+              ended = ap (λ (x : Follower Proc). is_going x.fate) at;
+              count = seen;
+              spans = led ∙ f.led;
+              told = inl (record {
+                idle = ap (λ (x : Running Proc). x.leading) k ∙ was.idle;
+                handed_on = f.handed_on;
+                handed = subst (λ (x : List (ℕ × ℕ)). AreHandedBy threads judges start most (hands_of room) (version_of_reader r) p x f.log) (sym led) was.handed;
+                stage = inr (inr (record {
+                  event = f.event;
+                  fit = may.range;
+                  words = f.read;
+                  before = v.at;
+                  on = was.on;
+                  seen = was.seen;
+                  stage = subst (λ (x : List (ℕ × ℕ)). IsStage (track_next threads (judges (version_of_reader r)) x f.log) (fresh p) v.at) (sym led)
+                      (subst (λ (x : List Entry). IsStage (track_next threads (judges (version_of_reader r)) v.led x) (fresh p) v.at) (append-nil f.log) was.stage);
+                  left = at;
+                }));
+              });
+            };
+      }

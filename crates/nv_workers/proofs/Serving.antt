@@ -21,7 +21,6 @@ use Rattle.nv_room.specs.Seats.{IsLeadOf, SameLead, lead_view, station_of_lead, 
 use Rattle.nv_threads.specs.Threads.{Proc, threads}
 use Rattle.nv_threads.proofs.ThreadLaws.{thread_laws}
 use Rattle.nv_replay.specs.declared.fate.Fate.TheVariants.{Memory}
-use Rattle.nv_replay.specs.declared.fate.Fate.{Fate}
 use Rattle.nv_replay.specs.Follow.{Judge}
 use Rattle.nv_replay.specs.Hands.{has, count_above}
 use Rattle.nv_replay.specs.Sequence.{is_going}
@@ -39,6 +38,7 @@ use Rattle.nv_workers.proofs.Spanned.{map_append}
 use Rattle.nv_workers.proofs.Keeping.{asking_on, leading, drops, refuses, publishes, serves_on, serves_to, planned_few}
 use Rattle.nv_workers.proofs.Moving.{has_at}
 use Rattle.nv_workers.proofs.Asked.{as_planned_more}
+use Rattle.nv_workers.proofs.LettingGo.{lead_kept}
 
 -- what was published is seen
 pub grew_lead : {K : Type 0} {G : Ghosts K} (l l2 l3 l4 : Lead K G) (words : List ℕ) → (lead_view l2).seen ≡ (lead_view l).seen → lead_view l3 ≡ lead_view l2
@@ -86,7 +86,7 @@ grown_last (x ∷ y ∷ xs) s v a b = ap (λ l. x ∷ l) (grown_last (y ∷ xs) 
 ended_lead : {judges : ℕ → Judge} {T : Type 0} {most : ℕ} {hands : List ℕ} {on_demand : Bool} {i s : ℕ} {p : Proc} {v : Running Proc} {w : View T} (u : ℕ) (before : List Span) (from : ℕ) (log : List Entry)
     → map spell log ≡ w.seen → IsLawful log → w.spans ≡ before ++ span s u from (length w.seen) ∷ [] → w.station ≡ s → AreHandedOn before → AsPlanned on_demand hands before
     → FromAny log (λ start. HasLedFrom threads judges start most hands i p v (map ends_of before) from log) → is_going v.at.fate ≡ false → HasEnded judges most hands on_demand i p v w
-ended_lead {hands = hands} {on_demand = on_demand} {s = s} {v = v} {w = w} u before from log sp law spans at on unasked leads e =
+ended_lead {judges = judges} {most = most} {hands = hands} {on_demand = on_demand} {s = s} {v = v} {w = w} u before from log sp law spans at on unasked leads e =
     let led = leads (as_told log) (legal_told log law) in
     let long : length w.seen ≡ length log = sym (ap (λ (x : List (List ℕ)). length x) sp) ∙ long_as log in
     let told : v.led ≡ map ends_of w.spans = led.span ∙ (ap (λ (n : ℕ). map ends_of before ++ (from, n) ∷ []) (sym long)
@@ -98,6 +98,7 @@ ended_lead {hands = hands} {on_demand = on_demand} {s = s} {v = v} {w = w} u bef
       count = led.seen ∙ sym long;
       led = told;
       as_planned = subst (AsPlanned on_demand hands) (sym spans) (as_planned_more on_demand hands before (span s u from (length w.seen)) unasked (λ off. refl));
+      stays = λ off. lead_kept threads judges (as_told log) most hands led;
       done = λ start legal. record {
         ended = e;
         count = led.seen;

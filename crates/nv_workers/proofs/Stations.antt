@@ -3,10 +3,8 @@ use Rattle.std.specs.Prelude.{◌≡◌, ℕ, zero, suc, ◌+◌, ◌<◌, ◌�
 use Rattle.nv_calls.specs.Calls.{Entry}
 use Rattle.nv_calls.specs.Logs.{Start, live_after}
 use Rattle.nv_threads.specs.Behaviours.{Behaviour}
-use Rattle.nv_replay.specs.Settling.{stage}
-use Rattle.nv_replay.specs.Follow.{Follower, Judge, fresh, IsInStep, is_exited}
+use Rattle.nv_replay.specs.Follow.{Follower, Judge, IsInStep, is_exited}
 use Rattle.nv_replay.specs.Lead.{Leader}
-use Rattle.nv_replay.specs.Tracks.{track_next}
 use Rattle.nv_replay.specs.Hands.{is_handed}
 use Rattle.nv_replay.specs.Sequence.{is_going}
 use Rattle.nv_replay.specs.Monitor.{Part, Run, after_lead, tracked_by, leads_on}
@@ -33,8 +31,8 @@ module _ {P : Type 0} (g : Behaviour P) (judges : ℕ → Judge) (start : Start)
     pub none : spans k ≡ []
     pub below : (j a b : ℕ) → k < j → j < total → spans j ≡ (a, b) ∷ [] → length read ≤ a
     pub at : Follower P
-    pub steps : ℕ
-    pub reach : stage (track_next g (judges i) v.led read) steps (fresh v.process) ≡ at
+    -- it comes to that however the log goes on
+    pub is : (more : List Entry) → tracked_by g judges start most cuts hands (read ++ more) i v ≡ at
     pub ended : is_going at.fate ≡ false
 
   -- station k's seat led: where it took the lead, its version was in step with the whole log

@@ -10,19 +10,21 @@ use Rattle.nv_calls.specs.Calls.{Entry}
 use Rattle.nv_calls.specs.Logs.{Start, IsLawful, IsLegal, live_after}
 use Rattle.nv_threads.specs.Behaviours.{Behaviour, IsProcess}
 use Rattle.nv_replay.specs.declared.standing.Standing.{Standing}
-use Rattle.nv_replay.specs.Follow.{Judge, fresh, is_exited}
+use Rattle.nv_replay.specs.Follow.{Follower, Judge, fresh, IsInStep, is_exited}
 use Rattle.nv_replay.specs.Lead.{Leader, is_cut, cut_of}
-use Rattle.nv_replay.specs.Tracks.{track_next, track}
+use Rattle.nv_replay.specs.LettingGo.{stop_of, front, let_go}
+use Rattle.nv_replay.proofs.LettingGo.{uncut, ended_is, let_go_is}
+use Rattle.nv_replay.proofs.Stops.{stop_same, stop_at, stop_below, track_tells}
+use Rattle.nv_replay.specs.Tracks.{track_next}
 use Rattle.nv_replay.specs.Hands.{has, is_handed, next_or_hand, lead_to_hand}
 use Rattle.nv_replay.specs.Sequence.{Account, is_going, cuts_of}
-use Rattle.nv_replay.specs.Monitor.{Part, led_line, tracked_by, told_standing, lines_of, sequence}
+use Rattle.nv_replay.specs.Monitor.{Part, led_line, tracked_by, leads_on, told_standing, lines_of, sequence}
 use Rattle.nv_replay.specs.Covers.{AreEnded, Covers}
 use Rattle.nv_replay.specs.Version.{Running, leader_of, standing_of, process_of}
 use Rattle.nv_replay.specs.Account.{AreFresh}
 use Rattle.nv_replay.proofs.Settled.{Reaches}
 use Rattle.nv_replay.proofs.Numbers.{some_at, map_at, ended_not_handed, eq_same}
 use Rattle.nv_replay.proofs.Falling.{within}
-use Rattle.nv_replay.proofs.Tracking.{track_ended}
 use Rattle.nv_replay.proofs.Stretches.{ended_rests, hand_is}
 use Rattle.nv_replay.proofs.Turning.{take_all}
 use Rattle.nv_replay.proofs.Wholly.{suits_end}
@@ -32,8 +34,9 @@ use Rattle.nv_replay.proofs.Agreeing.{survivors}
 use Rattle.nv_room.specs.declared.view.Span.{Span}
 use Rattle.nv_room.specs.Spans.{Rising, of_station, of_version, Opened, Opens as Opens'}
 use Rattle.nv_words.specs.Spelling.{flag_bit}
-use Rattle.nv_workers.specs.Ends.{IsCutOf, ends_of, AreHandedOn, Leaving, IsSpelling, spelt, IsFinished, version_tracked, leader_begun, TakesLead, HandedOver, Gap, AreGivenUp, asked_in, HasLedFrom, IsDroppedAt, HasFollowed, LeftWith, HasRunAll, IsAccount}
+use Rattle.nv_workers.specs.Ends.{IsCutOf, ends_of, AreHandedOn, Leaving, IsSpelling, spelt, IsFinished, version_tracked, leader_begun, TakesLead, HandedOver, Gap, AreGivenUp, asked_in, HasLedFrom, IsDroppedAt, IsLetGoAt, HasFollowed, LeftWith, HasRunAll, IsAccount}
 use Rattle.nv_workers.proofs.Prefixes.{with_next, take_within}
+use Rattle.nv_workers.proofs.LettingGo.{lead_kept}
 use Rattle.nv_workers.proofs.Keeping.{reaches, split_last, hands_planned}
 use Rattle.nv_workers.proofs.Asked.{given_up, gap_within, kept_end, at_front}
 use Rattle.nv_workers.proofs.Stations.{WentBy, LedBy}
@@ -124,21 +127,27 @@ module _ {P : Type 0} (g : Behaviour P) (laws : IsProcess g) (judges : ℕ → J
       let n = some_at news i l in
       record { old = o.0; new = n.0; at_old = o.1; at_new = n.1; is = done i o.0 n.0 o.1 n.1 }
 
-  cuts_at : (lines : List Standing) (k : ℕ) (line : Standing) → slice_get lines k ≡ Some line → cuts_of lines k ≡ cut_of line.fate line.seen
+  cuts_at : (lines : List Standing) (k : ℕ) (line : Standing) → slice_get lines k ≡ Some line → cuts_of lines k ≡ stop_of line.fate line.seen
   cuts_at [] k line q = cc
-  cuts_at (l ∷ lines) zero line q = ap (λ (x : Standing). cut_of x.fate x.seen) (same_Some l line q)
+  cuts_at (l ∷ lines) zero line q = ap (λ (x : Standing). stop_of x.fate x.seen) (same_Some l line q)
   cuts_at (l ∷ lines) (suc k) line q = cuts_at lines k line q
 
-  cut_is : (i : ℕ) (v : Running P) → slice_get news i ≡ Some v → cuts i ≡ cut_of v.at.fate v.at.seen
+  cut_is : (i : ℕ) (v : Running P) → slice_get news i ≡ Some v → cuts i ≡ stop_of v.at.fate v.at.seen
   cut_is i v q = cuts_at (map standing_of news) i (standing_of v) (map_at standing_of news i v q)
 
   -- the cut of a version is above the parts that it has led to their end
   cut_above : (i to : ℕ) (v : Running P) → slice_get news i ≡ Some v → to ≤ v.at.seen → IsCutOf (cuts i) None to
   cut_above i to v q l =
       let e = cut_is i v q in record {
-        below = λ k m. ap (λ (c : Option ℕ). is_cut c k) e ∙ (suits_end v.at.fate v.at.seen).below k (omega arith);
+        below = λ k m. ap (λ (c : Option ℕ). is_cut c k) e ∙ stop_below v.at.fate v.at.seen k (omega arith);
         end = λ z. let y : true ≡ false = z in cc;
       }
+
+  -- and so it follows the log up to there whole
+  follows_to : (i to : ℕ) (v : Running P) → slice_get news i ≡ Some v → to ≤ v.at.seen → (p : P) (led : List (ℕ × ℕ)) (log : List Entry) → length log ≡ to
+      → tracked_by g judges start most cuts hands log i (record { process = p; led = led; told = None }) ≡ version_tracked g judges i p led log
+  follows_to i to v q l p led log long =
+      uncut (cuts i) log (λ (x : List Entry). version_tracked g judges i p led x) (λ n e. let same = stop_at v.at.fate v.at.seen n (sym (cut_is i v q) ∙ e) in omega arith)
 
   -- Stations
 
@@ -176,36 +185,71 @@ module _ {P : Type 0} (g : Behaviour P) (laws : IsProcess g) (judges : ℕ → J
     prefix : h ≡ read ++ rest
     one : length read ≤ length (left i).seen + 1
     more : length (left i).seen < length read → 0 < length (left i).words
-    reach : Reaches (track_next g (judges i) v.led read) (fresh p) v.at
+    -- however the log goes on
+    is : (log : List Entry) → tracked_by g judges start most cuts hands (read ++ log) i (record { process = p; led = v.led; told = None }) ≡ v.at
 
-  dropped : (i : ℕ) (l : i < length news) (p : P) (v : Running P) → IsDroppedAt g judges start most planned fits spell i p v (left i) → Fell i p v
-  dropped i l p v d =
+  -- who ended by itself within these events has no cut
+  ended_within : (i : ℕ) (p : P) (v : Running P) → slice_get news i ≡ Some v → is_going v.at.fate ≡ false → (read log : List Entry) → Reaches (track_next g (judges i) v.led read) (fresh p) v.at
+      → tracked_by g judges start most cuts hands (read ++ log) i (record { process = p; led = v.led; told = None }) ≡ v.at
+  ended_within i p v q e read log r =
+      let none : cuts i ≡ None = cut_is i v q ∙ (ap (λ (x : Follower P). stop_of x.fate v.at.seen) (sym r.is)
+      ∙ track_tells g (judges i) v.at.seen v.led read r.steps (fresh p) refl) in
+      ended_is g laws (judges i) v.led p (cuts i) read log v.at none r e
+
+  -- the event all of whose words the seat has read is the log's next
+  next_is : (i : ℕ) (l : i < length news) (event : Entry) → fits event → (left i).words ≡ spell event
+      → (rest : List Entry) × (h ≡ ((left i).seen ++ event ∷ []) ++ rest)
+  next_is i l event fit' words =
       let w = fin.words i l in
       let f = fin.prefix i l in
       let seen : List Entry = (left i).seen in
-      let at : slice_get h (length seen) ≡ Some d.event = next_is_by fits spell sp (slice_get h (length seen)) d.event (left i).words w.0 d.words w.1 d.fit (λ e q. fit (length seen) e q) in
-      let at' : slice_get (seen ++ f.0) (length seen) ≡ Some d.event = subst (λ (y : List Entry). slice_get y (length seen) ≡ Some d.event) f.1 at in
-      let m = with_next seen f.0 d.event at' in
+      let at : slice_get h (length seen) ≡ Some event = next_is_by fits spell sp (slice_get h (length seen)) event (left i).words w.0 words w.1 fit' (λ e q. fit (length seen) e q) in
+      let at' : slice_get (seen ++ f.0) (length seen) ≡ Some event = subst (λ (y : List Entry). slice_get y (length seen) ≡ Some event) f.1 at in
+      let m = with_next seen f.0 event at' in
+      (m.0, f.1 ∙ m.1)
+
+  dropped : (i : ℕ) (l : i < length news) (p : P) (v : Running P) → slice_get news i ≡ Some v → is_going v.at.fate ≡ false
+      → IsDroppedAt g judges start most planned fits spell i p v (left i) → Fell i p v
+  dropped i l p v q e d =
+      let seen : List Entry = (left i).seen in
+      let m = next_is i l d.event d.fit d.words in
       record {
         read = seen ++ d.event ∷ [];
         rest = m.0;
-        prefix = f.1 ∙ m.1;
+        prefix = m.1;
         one = omega (arith, length-append seen (d.event ∷ []));
         more = λ z. subst (λ (y : List ℕ). 0 < length y) (sym d.words) (sp.some d.event);
-        reach = reaches (track_next g (judges i) v.led (seen ++ d.event ∷ [])) (fresh p) v.at d.stage;
+        is = λ log. ended_within i p v q e (seen ++ d.event ∷ []) log (reaches (track_next g (judges i) v.led (seen ++ d.event ∷ [])) (fresh p) v.at d.stage);
       }
 
-  fell : (i : ℕ) (l : i < length news) (p : P) (v : Running P) → HasFollowed g judges start most planned fits spell i p v (left i) → Fell i p v
-  fell i l p v d = elim d.stage [
+  was_let_go : (i : ℕ) (l : i < length news) (p : P) (v : Running P) → slice_get news i ≡ Some v → IsLetGoAt g judges start most planned fits spell i p v (left i) → Fell i p v
+  was_let_go i l p v q d =
+      let seen : List Entry = (left i).seen in
+      let m = next_is i l d.event d.fit d.words in
+      let cut : cuts i ≡ Some (length seen) = cut_is i v q ∙ (ap (λ (x : Follower P). stop_of x.fate x.seen) d.left ∙ ap Some d.seen) in
+      record {
+        read = seen ++ d.event ∷ [];
+        rest = m.0;
+        prefix = m.1;
+        one = omega (arith, length-append seen (d.event ∷ []));
+        more = λ z. subst (λ (y : List ℕ). 0 < length y) (sym d.words) (sp.some d.event);
+        is = λ log. ap (λ (c : Option ℕ). let_go c ((seen ++ d.event ∷ []) ++ log) (version_tracked g judges i p v.led (front c ((seen ++ d.event ∷ []) ++ log)))) cut
+            ∙ (let_go_is g laws (judges i) v.led p seen d.event log d.before (reaches (track_next g (judges i) v.led seen) (fresh p) d.before d.stage) d.on d.seen ∙ sym d.left);
+      }
+
+  fell : (i : ℕ) (l : i < length news) (p : P) (v : Running P) → slice_get news i ≡ Some v → is_going v.at.fate ≡ false
+      → HasFollowed g judges start most planned fits spell i p v (left i) → Fell i p v
+  fell i l p v q e d = elim d.stage [
     | inl st ↦ (let f = fin.prefix i l in record {
       read = (left i).seen;
       rest = f.0;
       prefix = f.1;
       one = omega arith;
       more = λ z. absurd (omega arith);
-      reach = reaches (track_next g (judges i) v.led (left i).seen) (fresh p) v.at st;
+      is = λ log. ended_within i p v q e (left i).seen log (reaches (track_next g (judges i) v.led (left i).seen) (fresh p) v.at st);
     })
-    | inr st ↦ dropped i l p v st
+    | inr (inl st) ↦ dropped i l p v q e st
+    | inr (inr st) ↦ was_let_go i l p v q st
   ]
 
   -- A station that went by
@@ -247,7 +291,7 @@ module _ {P : Type 0} (g : Behaviour P) (laws : IsProcess g) (judges : ℕ → J
     went_out : below k i ≡ r.new.led → Went k i (seat own who p k)
     went_out e =
         let d : HasFollowed g judges start most planned fits spell i p r.new (left i) = elim r.is.told [ inl d ↦ d | inr d ↦ absurd (no_leader d) ] in
-        let f = fell i (is_version k l) p r.new d in
+        let f = fell i (is_version k l) p r.new r.at_new r.is.ended d in
         subst (λ (y : List (ℕ × ℕ)). Went k i (record { process = p; led = y; told = None })) (sym e) (record {
           read = f.read;
           rest = f.rest;
@@ -255,8 +299,7 @@ module _ {P : Type 0} (g : Behaviour P) (laws : IsProcess g) (judges : ℕ → J
           none = own_none;
           below = before_by f.read f.one f.more;
           at = r.new.at;
-          steps = f.reach.steps;
-          reach = f.reach.is;
+          is = f.is;
           ended = r.is.ended;
         })
 
@@ -304,7 +347,7 @@ module _ {P : Type 0} (g : Behaviour P) (laws : IsProcess g) (judges : ℕ → J
       out : Goal led
       over : is_handed hands out.from out.end ≡ x.handed
       line : tells (suc k) iv ≡ told_by (record { process = pv; led = led; told = None })
-          (version_tracked g judges iv pv led (take out.from out.log)) out.end out.from x.handed
+          (tracked_by g judges start most cuts hands (take out.from out.log) iv (record { process = pv; led = led; told = None })) out.end out.from x.handed
 
     seen_to : (to : ℕ) → to ≤ length (left iv).seen → to ≤ rv.new.at.seen
     seen_to to m = let c = rv.is.count in omega arith
@@ -322,6 +365,8 @@ module _ {P : Type 0} (g : Behaviour P) (laws : IsProcess g) (judges : ℕ → J
         let long_from : length (take x.from log) ≡ x.from = length_take log x.from (omega arith) in
         let T : List Entry → Type 0 = λ y. TakesLead g judges iv pv parts y in
         let t : T (take x.from log) = subst T (sym tk) d.takes in
+        let by : tracked_by g judges start most cuts hands (take x.from log) iv (record { process = pv; led = parts; told = None }) ≡ version_tracked g judges iv pv parts (take x.from log) =
+        follows_to iv x.from rv.new rv.at_new (seen_to x.from (omega arith)) pv parts (take x.from log) long_from in
         let end : Leader P = record { process = d.process; log = log; fate = None } in
         let lead : lead_to_hand g start most (cuts iv) hands (length (take x.from log)) (leader_begun g judges iv pv parts (take x.from log)) ≡ end =
         (λ j. lead_to_hand g start most (cuts iv) hands (long_from j) (leader_begun g judges iv pv parts (tk j))) ∙ d.lead (cuts iv) (cut_above iv x.to rv.new rv.at_new (seen_to x.to w)) in
@@ -333,11 +378,11 @@ module _ {P : Type 0} (g : Behaviour P) (laws : IsProcess g) (judges : ℕ → J
           prefix = f.1 ∙ (ap (λ (y : List Entry). y ++ f.0) (sym halves) ∙ append_assoc log (drop x.to seen) f.0);
           span = own_one ∙ ap (λ (y : ℕ). (x.from, y) ∷ []) (sym long_log);
           within = omega arith;
-          on = t.on;
-          seen = t.seen ∙ long_from;
-          in_step = t.in_step;
+          on = ap (λ (y : Follower P). y.fate) by ∙ t.on;
+          seen = ap (λ (y : Follower P). y.seen) by ∙ (t.seen ∙ long_from);
+          in_step = subst (λ (y : Follower P). IsInStep g (take x.from log) y) (sym by) t.in_step;
           end = end;
-          lead = lead;
+          lead = ap (λ (y : Follower P). leads_on g judges start most cuts hands (take x.from log) iv y) by ∙ lead;
           end_log = refl;
           exited = λ z. cc;
         } in
@@ -345,7 +390,7 @@ module _ {P : Type 0} (g : Behaviour P) (laws : IsProcess g) (judges : ℕ → J
           out = o;
           over = over ∙ sym hd;
           line = none ∙ ap (told_by (record { process = pv; led = parts; told = None })
-              (version_tracked g judges iv pv parts (take x.from log)) end x.from) (sym hd);
+              (tracked_by g judges start most cuts hands (take x.from log) iv (record { process = pv; led = parts; told = None })) end x.from) (sym hd);
         }
 
     gap_here : x.to ≡ length (left iv).seen → Gap asked x.from (length (left iv).seen)
@@ -368,10 +413,12 @@ module _ {P : Type 0} (g : Behaviour P) (laws : IsProcess g) (judges : ℕ → J
         (sym (map_append ends_of before (x ∷ [])) ∙ (sym (ap (map ends_of) whole) ∙ (sym rv.is.spans ∙ s.span)))) in
         let t = s.takes in
         let long_from : length (take x.from seen) ≡ x.from = length_take seen x.from s.within in
+        let by : tracked_by g judges start most cuts hands (take x.from seen) iv (record { process = pv; led = parts; told = None }) ≡ version_tracked g judges iv pv parts (take x.from seen) =
+        follows_to iv x.from v rv.at_new (seen_to x.from s.within) pv parts (take x.from seen) long_from in
         let end : Leader P = leader_of v seen in
         let ended : is_going v.at.fate ≡ false = rv.is.ended in
         let su = suits_end v.at.fate v.at.seen in
-        let c : IsCutOf (cuts iv) v.at.fate (length seen) = (let e = cut_is iv v rv.at_new in record {
+        let c : IsCutOf (cuts iv) v.at.fate (length seen) = (let e = cut_is iv v rv.at_new ∙ stop_same v.at.fate v.at.seen (lead_kept g judges start most planned s) in record {
           below = λ j m. ap (λ (y : Option ℕ). is_cut y j) e ∙ su.below j (let n = s.seen in omega arith);
           end = λ z. e ∙ ap (cut_of v.at.fate) s.seen;
         }) in
@@ -387,21 +434,22 @@ module _ {P : Type 0} (g : Behaviour P) (laws : IsProcess g) (judges : ℕ → J
           prefix = f.1;
           span = own_one ∙ ap (λ (y : ℕ). (x.from, y) ∷ []) to;
           within = s.within;
-          on = t.on;
-          seen = t.seen ∙ long_from;
-          in_step = t.in_step;
+          on = ap (λ (y : Follower P). y.fate) by ∙ t.on;
+          seen = ap (λ (y : Follower P). y.seen) by ∙ (t.seen ∙ long_from);
+          in_step = subst (λ (y : Follower P). IsInStep g (take x.from seen) y) (sym by) t.in_step;
           end = end;
-          lead = lead;
+          lead = ap (λ (y : Follower P). leads_on g judges start most cuts hands (take x.from seen) iv y) by ∙ lead;
           end_log = refl;
           exited = dead;
         } in
-        let line : standing_of v ≡ led_line (record { process = pv; led = parts; told = None }) (version_tracked g judges iv pv parts (take x.from seen)) x.from end =
-        λ j. record { fate = v.at.fate; seen = s.seen j; led = s.span j; rewrites = s.rewrites j } in
+        let line : standing_of v ≡ led_line (record { process = pv; led = parts; told = None })
+        (tracked_by g judges start most cuts hands (take x.from seen) iv (record { process = pv; led = parts; told = None })) x.from end =
+        λ j. record { fate = v.at.fate; seen = s.seen j; led = s.span j; rewrites = (s.rewrites ∙ ap (λ (y : Follower P). y.rewrites) (sym by)) j } in
         record {
           out = o;
           over = ended_not_handed hands x.from end ended ∙ sym hd;
           line = told ∙ (ap Some line ∙ ap (told_by (record { process = pv; led = parts; told = None })
-              (version_tracked g judges iv pv parts (take x.from seen)) end x.from) (sym hd));
+              (tracked_by g judges start most cuts hands (take x.from seen) iv (record { process = pv; led = parts; told = None })) end x.from) (sym hd));
         }
 
     -- what is told after the station
@@ -587,7 +635,8 @@ module _ {P : Type 0} (g : Behaviour P) (laws : IsProcess g) (judges : ℕ → J
     led_tells : TellsOn g judges start most cuts hands h own total who tells (ran (who k) (is_version k l)).old.at.process k (inr here_out.out)
     led_tells = (
       here_out.line ∙ ap (told_by (seat own who (ran (who k) (is_version k l)).old.at.process k)
-          (version_tracked g judges (who k) (ran (who k) (is_version k l)).old.at.process (below k (who k)) (take here_out.out.from here_out.out.log)) here_out.out.end here_out.out.from) (sym here_out.over),
+          (tracked_by g judges start most cuts hands (take here_out.out.from here_out.out.log) (who k) (seat own who (ran (who k) (is_version k l)).old.at.process k))
+          here_out.out.end here_out.out.from) (sym here_out.over),
       λ j q. other_told k j l q,
     )
 
@@ -672,10 +721,10 @@ module _ {P : Type 0} (g : Behaviour P) (laws : IsProcess g) (judges : ℕ → J
       elim x.is.told [
         | inl d ↦ (
             let none : v.told ≡ None = vt ∙ (T true ∙ ap (λ (y : Bool). told_if x.new y (nat_le total (left i).station)) d.idle) in
-            let f = fell i l p x.new d in
-            let a : x.new.at ≡ version_tracked g judges i p x.new.led h = subst (λ (y : List Entry). x.new.at ≡ version_tracked g judges i p x.new.led y) (sym f.prefix)
-            (track_ended g laws (judges i) x.new.led p x.new.at f.read f.rest f.reach x.is.ended) in
-            let b : tracked_by g judges start most cuts hands h i v ≡ x.new.at = (λ j. track g (judges i) (vl j) h (fresh (vp j))) ∙ sym a in
+            let f = fell i l p x.new x.at_new x.is.ended d in
+            let a : tracked_by g judges start most cuts hands h i (record { process = p; led = x.new.led; told = None }) ≡ x.new.at =
+            subst (λ (y : List Entry). tracked_by g judges start most cuts hands y i (record { process = p; led = x.new.led; told = None }) ≡ x.new.at) (sym f.prefix) (f.is f.rest) in
+            let b : tracked_by g judges start most cuts hands h i v ≡ x.new.at = (λ j. tracked_by g judges start most cuts hands h i (record { process = vp j; led = vl j; told = None })) ∙ a in
             ap (told_standing g judges start most cuts hands h i v) none ∙ (λ j. record { fate = (b j).fate; seen = (b j).seen; led = vl j; rewrites = (b j).rewrites }))
         | inr d ↦ (
             let at = (fin.last i l).has in

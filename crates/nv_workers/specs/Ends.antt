@@ -8,6 +8,7 @@ use Rattle.nv_room.specs.declared.view.Span.{Span}
 use Rattle.nv_room.specs.Spans.{Tiles, Rising, of_version, IsLastStation, Opened}
 use Rattle.nv_threads.specs.Behaviours.{Behaviour}
 use Rattle.nv_replay.specs.declared.fate.Fate.{Fate}
+use Rattle.nv_replay.specs.declared.fate.Fate.TheVariants.{LetGo}
 use Rattle.nv_replay.specs.Settling.{stage}
 use Rattle.nv_replay.specs.Follow.{Follower, Judge, fresh, IsInStep}
 use Rattle.nv_replay.specs.Lead.{Leader, is_cut, cut_of}
@@ -154,12 +155,23 @@ module _ {P : Type 0} (g : Behaviour P) (judges : ℕ → Judge) (replies : Star
     pub words : l.words ≡ spell event
     pub stage : IsStage (track_next g (judges i) v.led (l.seen ++ event ∷ [])) (fresh p) v.at
 
+  -- a follower that was let go at an event all of whose words its seat has read, and on which it decided nothing
+  pub record IsLetGoAt (i : ℕ) (p : P) (v : Running P) (l : Leaving) : Type 0 where
+    pub event : Entry
+    pub fit : fits event
+    pub words : l.words ≡ spell event
+    pub before : Follower P
+    pub on : before.fate ≡ None
+    pub seen : before.seen ≡ length l.seen
+    pub stage : IsStage (track_next g (judges i) v.led l.seen) (fresh p) before
+    pub left : v.at ≡ record before { fate = Some LetGo }
+
   -- it ended as a follower
   pub record HasFollowed (i : ℕ) (p : P) (v : Running P) (l : Leaving) : Type 0 where
     pub idle : v.leading ≡ false
     pub handed_on : AreHandedOn l.spans
     pub handed : AreHandedBy g judges replies most planned i p v.led l.seen
-    pub stage : IsStage (track_next g (judges i) v.led l.seen) (fresh p) v.at ⊎ IsDroppedAt i p v l
+    pub stage : IsStage (track_next g (judges i) v.led l.seen) (fresh p) v.at ⊎ (IsDroppedAt i p v l ⊎ IsLetGoAt i p v l)
 
   -- it ended as the leader
   pub record LeftWith (i : ℕ) (p : P) (v : Running P) (l : Leaving) : Type 0 where

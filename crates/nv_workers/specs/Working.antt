@@ -17,6 +17,7 @@ use Rattle.nv_threads.specs.Threads.{Proc, threads}
 use Rattle.nv_replay.specs.Follow.{Judge}
 use Rattle.nv_replay.specs.Version.{Running}
 use Rattle.nv_replay.specs.Hands.{has}
+use Rattle.nv_replay.specs.LettingGo.{is_let_go}
 use Rattle.nv_workers.specs.Ends.{Leaving, ends_of, AreHandedOn, AsPlanned, HasRunAll}
 use Rattle.nv_workers.specs.Turns.{held_list, IsReaders, IsServing, IsAsking}
 
@@ -39,6 +40,8 @@ pub record HasEnded (judges : ℕ → Judge) {T : Type 0} (most : ℕ) (hands : 
   pub count : v.at.seen ≡ length w.seen
   pub led : v.led ≡ map ends_of w.spans
   pub as_planned : AsPlanned on_demand hands w.spans
+  -- where leaders don't hand over on demand, nobody is let go either
+  pub stays : on_demand ≡ false → is_let_go v.at.fate ≡ false
   pub done : FromAny log (λ start. HasRunAll threads judges start most hands InRange spell i p v (leaving_of log w))
 
 -- a leader's version has no call asked, or that of this thread; `over` says that it gives up the lead here
@@ -59,6 +62,20 @@ module _ (judges : ℕ → Judge) {K : Type 0} {G : Ghosts K} (room : Room K) (m
     pub handed_on : AreHandedOn (view r).spans
     pub as_planned : AsPlanned (on_demand_of room) (hands_of room) (view r).spans
     pub reading : FromAny log (λ start. IsReaders threads judges start most (hands_of room) (version_of_reader r) p v log next)
+
+  -- the same version where its reader has just read the next event whole, which stands in the buffer: it has decided nothing on it
+  pub record HasFound (r : Reader K G) (buf : List ℕ) : Type 0 where
+    pub of : IsOfRoom room r
+    pub log : List Entry
+    pub event : Entry
+    pub spelt : map spell log ≡ (view r).seen
+    pub lawful : IsLawful (log ++ event ∷ [])
+    pub read : (view r).read ≡ spell event
+    pub words : buf ≡ spell event
+    pub led : v.led ≡ map ends_of (view r).spans
+    pub handed_on : AreHandedOn (view r).spans
+    pub as_planned : AsPlanned (on_demand_of room) (hands_of room) (view r).spans
+    pub reading : FromAny log (λ start. IsReaders threads judges start most (hands_of room) (version_of_reader r) p v log None)
 
   -- a version without a fate that was fresh with the process p, and its lead; where it is over, it gives up the lead next
   pub record LeadsOn (over : Bool) (l : Lead K G) (asked : Option ℕ) : Type 0 where

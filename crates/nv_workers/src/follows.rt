@@ -2,10 +2,10 @@
 ghost use Rattle.std.specs.Prelude.{◌≡◌, ◌≤◌, ℕ, [], true, length};
 ghost use Rattle.nv_threads.specs.Threads.{Proc};
 ghost use Rattle.nv_room.specs.Kinds.{Stepped};
-ghost use Rattle.nv_room.specs.Seats.{IsOfRoom, SameReader, stations_of, view, version_of_reader};
+ghost use Rattle.nv_room.specs.Seats.{IsOfRoom, SameReader, stations_of, view, version_of_reader, on_demand_of};
 ghost use Rattle.nv_room.specs.Steps.{TellsEnd};
 ghost use Rattle.nv_workers.specs.Terms.{judges_of};
-ghost use Rattle.nv_workers.specs.Working.{FollowsOn};
+ghost use Rattle.nv_workers.specs.Working.{FollowsOn, HasFound};
 ghost use Rattle.nv_workers.specs.Growing.{OneMoreAtMost};
 ghost use Rattle.nv_workers.specs.Follows.{AfterTurn, HasGrown, IsIdle, IsBusy, IsFound, IsWaiting};
 ghost use Rattle.nv_workers.specs.inner.Spares.{HasSpared, MayBeAhead};
@@ -77,7 +77,7 @@ pub(crate) fn follow_turn<K: SyscallKernel, G: Gate>(
     match find_event(reader, room, buf) {
         Found::Event => {
             *held = true;
-            decide(version, reader, held, buf, room, terms)
+            begin_event(version, reader, held, buf, room, terms)
         }
         Found::Held => go_ahead(version, spare),
         Found::Free => Next::Leads,
@@ -133,6 +133,45 @@ fn find_event<K: SyscallKernel>(reader: &mut Reader<K>, room: &Room<K>, buf: &mu
         Polled::Free(_) => Found::Free,
         Polled::Waiting | Polled::Closed(_) => unreachable!(),
     }
+}
+
+// The next event was found: the version is let go before it, or makes its first decision on it.
+fn begin_event<K: SyscallKernel, G: Gate>(
+    version: &mut Version,
+    reader: &mut Reader<K>,
+    held: &mut bool,
+    buf: &EventBuf,
+    room: &Room<K>,
+    terms: &Terms<'_, G>,
+) -> Next
+    requires found { (most : ℕ) × (p : Proc) × HasFound (judges_of terms.now) room.now most p version.old reader.old buf.now }
+    requires held { held.old ≡ true }
+    ensures same { SameReader reader.old reader.new }
+    ensures after { (most : ℕ) (p : Proc) → HasFound (judges_of terms.now) room.now most p version.old reader.old buf.now → AfterTurn (judges_of terms.now) room.now most p version.new reader.new held.new buf.now result }
+    ensures grown { HasGrown (view reader.old) (view reader.new) version.old version.new result }
+    ensures busy { IsBusy result }
+    ensures one { OneMoreAtMost (length (view reader.old).seen) (length (view reader.new).seen) }
+    ensures rewrites { version.old.at.rewrites ≤ version.new.at.rewrites }
+    ensures steps { Stepped (stations_of room.now) (view reader.old) (view reader.new) }
+{
+    let over = is_let_go(version, reader, room, terms.gate);
+    if over {
+        version.let_go();
+        return Next::Leaves;
+    }
+    decide(version, reader, held, buf, room, terms)
+}
+
+// Whether the gate has the version let go, which it may only where leaders hand over on demand, too.
+fn is_let_go<K: SyscallKernel, G: Gate>(
+    version: &Version,
+    reader: &Reader<K>,
+    room: &Room<K>,
+    gate: &G,
+) -> bool
+    ensures { result ≡ true → on_demand_of room.now ≡ true }
+{
+    room.on_demand() && gate.lets_go(follower(reader), version.standing().seen)
 }
 
 // One decision on the event that is held.

@@ -1,4 +1,4 @@
-// What workers tell while a run goes on, and where they may be held.
+// What workers tell while a run goes on, where they may be held, and who is let go.
 
 use nv_calls::Event;
 use nv_replay::Standing;
@@ -25,6 +25,15 @@ pub trait Gate {
 
     /// The version leads from the event with this stamp on, in place of one that led before.
     fn at_lead(&self, _version: VersionNumber, _stamp: u32) {}
+
+    /// The version leads, and its next event finds no place: followers have still to pass those before it. Asked again and again while that lasts.
+    fn at_wait(&self, _version: VersionNumber) {}
+
+    /// Whether a version that follows, and has passed so many events, is to be let go before the next one, which is there. Any answer is right; where leaders don't hand
+    /// over on demand nobody is asked.
+    fn lets_go(&self, _version: VersionNumber, _passed: u32) -> bool {
+        false
+    }
 
     /// The version has ended, and leaves next.
     fn at_end(&self, _version: VersionNumber, _standing: &Standing) {}

@@ -70,6 +70,7 @@ fn serve<K: SyscallKernel, G: Gate>(
     ensures steps { Stepped (stations_of room.now) (lead_view lead.old) (lead_view lead.new) }
 {
     if let Placed::Waiting(_) = place(lead, room) {
+        terms.gate.at_wait(leader(lead));
         return Next::Waits;
     }
     if lead.reserve(version.pending(tid)).is_err() {

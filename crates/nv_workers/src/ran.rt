@@ -1,9 +1,10 @@
 //! A whole run.
-ghost use Rattle.std.specs.Prelude.{◌≡◌, ◌≤◌, ◌<◌, ◌+◌, ◌++◌, ℕ, List, [], false, length, vec_len, vec_capacity, IfOk, IfErr};
+ghost use Rattle.std.specs.Prelude.{◌≡◌, ◌≤◌, ◌<◌, ◌+◌, ◌++◌, ℕ, List, [], false, map, length, vec_len, vec_capacity, IfOk, IfErr};
 ghost use Rattle.nv_calls.specs.Logs.{Start};
 ghost use Rattle.nv_threads.specs.Threads.{Proc, threads};
 ghost use Rattle.nv_replay.specs.Follow.{Judge};
-ghost use Rattle.nv_replay.specs.Version.{Running};
+ghost use Rattle.nv_replay.specs.LettingGo.{NoneLetGo};
+ghost use Rattle.nv_replay.specs.Version.{Running, standing_of};
 ghost use Rattle.nv_room.specs.Seats.{versions_of, hands_of, on_demand_of, origin};
 ghost use Rattle.nv_workers.specs.Ends.{IsAccount};
 ghost use Rattle.nv_workers.specs.Terms.{AreOfRoom, judges_of};
@@ -157,6 +158,10 @@ pub fn end<K: SyscallKernel>(ran: Ran<K>) -> Account<K>
     ensures start { K.start result.kernel ≡ K.start (origin ran.room) }
     ensures account { (judges : ℕ → Judge) (most : ℕ) (fresh : List (Running Proc)) → AllRan judges ran.room most fresh ran.versions.items ran.left.items
         → (asked : List ℕ) × (on_demand_of ran.room ≡ false → asked ≡ []) × IsAccount threads judges (K.known result.kernel) most (hands_of ran.room ++ asked) fresh result.versions.items (K.log result.kernel) }
+
+    // where leaders don't hand over on demand, no version was let go
+    ensures stays { (judges : ℕ → Judge) (most : ℕ) (fresh : List (Running Proc)) → AllRan judges ran.room most fresh ran.versions.items ran.left.items
+        → on_demand_of ran.room ≡ false → NoneLetGo (map standing_of result.versions.items) }
 
     // where what a kernel was made over tells how it goes on, the account is from what the room's was made over
     ensures foretold { (told : K.Beginning → Start) → ((k : K) → K.known k ≡ told (K.start k))

@@ -1,6 +1,6 @@
-use Rattle.std.proofs.Common.{◌≡◌, ◌∙◌, sym, ap, refl, subst, true, false, Bool, List}
+use Rattle.std.proofs.Common.{◌∙◌, refl, subst, Bool, List}
 use Rattle.nv_calls.specs.Calls.{Entry}
-use Rattle.nv_calls.specs.Logs.{IsLawful, Start}
+use Rattle.nv_calls.specs.Logs.{Start}
 use Rattle.nv_served.proofs.LearningLaws.{as_told, legal_told}
 use Rattle.nv_threads.specs.Threads.{threads}
 use Rattle.nv_threads.proofs.ThreadLaws.{thread_laws}

@@ -1,4 +1,4 @@
-use Rattle.std.proofs.Common.{option_map, ◌≡◌, ◌∙◌, sym, ap, subst}
+use Rattle.std.proofs.Common.{option_map, sym, ap, subst}
 use Rattle.nv_calls.specs.Logs.{IsLawful}
 use Rattle.nv_threads.specs.Threads.{threads}
 use Rattle.nv_threads.proofs.ThreadLaws.{thread_laws}

@@ -1,4 +1,4 @@
-use Rattle.std.proofs.Common.{option_map, ◌≡◌, ◌∙◌, sym, refl, arith, ℕ, List, ◌∷◌}
+use Rattle.std.proofs.Common.{option_map, ◌∙◌, sym, refl, arith}
 use Rattle.nv_threads.specs.Threads.{threads}
 use Rattle.nv_replay.specs.Follow.{judge_of}
 use Rattle.nv_sequence.proofs.Ordering.{first_of, short_order, had_turn}

@@ -1,6 +1,5 @@
-use Rattle.std.proofs.Common.{option_map, ◌≡◌, ◌∙◌, sym, ap, subst, refl, [], ◌++◌, ℕ, ◌+◌, ◌<◌, List, length, map, true, Bool}
+use Rattle.std.proofs.Common.{option_map, ◌∙◌, sym, ap, subst, refl, ◌++◌, ℕ, ◌+◌, ◌<◌, List, length, map, Bool}
 use Rattle.std.specs.Prelude.{if◌then◌else◌}
-use Rattle.nv_calls.specs.Calls.{Entry}
 use Rattle.nv_calls.specs.Logs.{Start, IsLawful}
 use Rattle.nv_calls.proofs.LogLaws.{lawful_none}
 use Rattle.nv_served.proofs.LearningLaws.{as_told, legal_told}

@@ -18,8 +18,8 @@ returns-then-held-clause-after g c = λ most p f.
 pub find_event-requires-clause-goes_on : goal.find_event-requires-clause-goes_on
 find_event-requires-clause-goes_on g c κs within = lives_on (none_held c.if-held.false c.requires.2)
 
-pub decide-requires-in-Event-clause-follows : goal.decide-requires-in-Event-clause-follows
-decide-requires-in-Event-clause-follows g c κs within =
+pub begin_event-requires-clause-found : goal.begin_event-requires-clause-found
+begin_event-requires-clause-found g c κs within =
     let e = c.in-Event.ensures in
     let f = none_held c.if-held.false c.requires.2 in
     (c.requires.0, c.requires.1, found_event f c.find_event.new.reader e.of e.same e.found.0 e.found.1 c.find_event.new.buf e.found.2 e.found.4)
@@ -27,7 +27,7 @@ decide-requires-in-Event-clause-follows g c κs within =
 pub returns-in-Event-clause-after : goal.returns-in-Event-clause-after
 returns-in-Event-clause-after g c = λ most p f.
     let e = c.in-Event.ensures in
-    c.decide-in-Event.ensures.after most p
+    c.begin_event.ensures.after most p
     (found_event (none_held c.if-held.false f) c.find_event.new.reader e.of e.same e.found.0 e.found.1 c.find_event.new.buf e.found.2 e.found.4)
 
 pub returns-in-Held-clause-after : goal.returns-in-Held-clause-after
@@ -44,7 +44,7 @@ returns-in-Free-clause-after g c = λ most p f.
     (found_none (none_held c.if-held.false f) c.find_event.new.reader e.of e.same e.found.0 e.found.1 c.find_event.new.buf e.found.2, e.found.3)
 
 pub returns-in-Event-clause-one : goal.returns-in-Event-clause-one
-returns-in-Event-clause-one g c = one_after _ _ _ c.in-Event.ensures.found.0 c.decide-in-Event.ensures.one
+returns-in-Event-clause-one g c = one_after _ _ _ c.in-Event.ensures.found.0 c.begin_event.ensures.one
 
 pub returns-in-Held-clause-one : goal.returns-in-Held-clause-one
 returns-in-Held-clause-one g c = none_more _ _ c.in-Held.ensures.found.0
@@ -59,4 +59,4 @@ returns-in-Held-clause-rewrites g c =
 
 pub returns-in-Event-clause-steps : goal.returns-in-Event-clause-steps
 returns-in-Event-clause-steps g c =
-    more_steps (stations_of c.args.room.now) (view c.args.reader.now) (view c.find_event.new.reader) (view c.decide-in-Event.new.reader) c.find_event.ensures.steps c.decide-in-Event.ensures.steps
+    more_steps (stations_of c.args.room.now) (view c.args.reader.now) (view c.find_event.new.reader) (view c.begin_event.new.reader) c.find_event.ensures.steps c.begin_event.ensures.steps

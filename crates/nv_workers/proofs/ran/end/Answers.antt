@@ -3,7 +3,7 @@ use Rattle.nv_calls.specs.Logs.{Start}
 use Rattle.nv_threads.specs.Threads.{threads}
 use Rattle.nv_room.specs.Seats.{hands_of}
 use Rattle.nv_workers.specs.Ends.{IsAccount}
-use Rattle.nv_workers.proofs.Finishing.{is_each, accounted}
+use Rattle.nv_workers.proofs.Finishing.{is_each, accounted, none_let_go}
 use Rattle.nv_workers.proofs.ran.end.Goals as goal
 
 pub finish-kernel-requires-after_bounds : goal.finish-kernel-requires-after_bounds
@@ -27,3 +27,6 @@ returns-clause-foretold g c = λ told law judges most fresh ran.
       a.1,
       subst (λ (s : Start). IsAccount threads judges s most (hands_of c.args.ran.room ++ a.0) fresh c.args.ran.versions.items (g.K.SyscallKernel.log kernel)) same a.2,
     )
+
+pub returns-clause-stays : goal.returns-clause-stays
+returns-clause-stays g c = λ judges most fresh ran off. none_let_go judges c.args.ran.room most 0 fresh c.args.ran.versions.items c.args.ran.left.items ran.ran off

@@ -1,6 +1,4 @@
-use Rattle.std.proofs.Common.{ap, arith}
-use Rattle.nv_threads.specs.Threads.{Proc}
-use Rattle.nv_replay.specs.Version.{Running}
+use Rattle.std.proofs.Common.{arith}
 use Rattle.nv_replay.proofs.version.Version.rewrites.Goals as goal
 
 pub returns-clause-few : goal.returns-clause-few
