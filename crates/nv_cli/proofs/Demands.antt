@@ -1,10 +1,11 @@
 -- Accounts with and without lengths that were asked for.
-use Rattle.std.proofs.Common.{◌≡◌, ◌∙◌, sym, ap, subst, refl, ℕ, Bool, false, List, [], ◌++◌}
+use Rattle.std.proofs.Common.{◌≡◌, ◌∙◌, sym, ap, subst, refl, ℕ, Bool, false, List, [], ◌++◌, map}
 use Rattle.std.proofs.lemmas.List.{append-nil}
 use Rattle.nv_calls.specs.Calls.{Entry}
 use Rattle.nv_calls.specs.Logs.{Start}
 use Rattle.nv_replay.specs.Follow.{Judge}
-use Rattle.nv_replay.specs.Version.{Running}
+use Rattle.nv_replay.specs.LettingGo.{NoneLetGo}
+use Rattle.nv_replay.specs.Version.{Running, standing_of}
 use Rattle.nv_threads.specs.Threads.{Proc, threads}
 use Rattle.nv_workers.specs.Ends.{IsAccount}
 use Rattle.nv_cli.specs.inner.Demands.{IsAccountOnDemand}
@@ -15,8 +16,8 @@ module _ (on_demand : Bool) (judges : ℕ → Judge) (start : Start) (most : ℕ
   Over hands = IsAccount threads judges start most hands olds news log
 
   -- where none was asked for
-  pub unasked : Over planned → IsAccountOnDemand on_demand judges start most planned olds news log
-  unasked a = record { asked = []; only = λ off. refl; is_account = subst Over (sym (append-nil planned)) a }
+  pub unasked : Over planned → NoneLetGo (map standing_of news) → IsAccountOnDemand on_demand judges start most planned olds news log
+  unasked a s = record { asked = []; only = λ off. refl; stays = λ off. s; is_account = subst Over (sym (append-nil planned)) a }
 
   -- nothing may be demanded
   pub planned_alone : on_demand ≡ false → IsAccountOnDemand on_demand judges start most planned olds news log → Over planned

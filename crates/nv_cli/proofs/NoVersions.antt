@@ -1,5 +1,5 @@
 -- A run without versions.
-use Rattle.std.proofs.Common.{◌≡◌, ◌∙◌, ap, sym, subst, refl, ℕ, ◌+◌, Bool, true, false, nat_le, if◌then◌else◌, List, [], ◌∷◌, Option, length, arith}
+use Rattle.std.proofs.Common.{◌≡◌, ◌∙◌, ap, sym, subst, refl, ℕ, ◌+◌, Bool, true, false, nat_le, if◌then◌else◌, List, [], ◌∷◌, Option, length, map, arith}
 use Rattle.std.proofs.lemmas.Bool.Decides.{nat_tests}
 use Rattle.nv_calls.specs.Calls.{Entry}
 use Rattle.nv_calls.specs.Logs.{Start}
@@ -8,9 +8,15 @@ use Rattle.nv_replay.specs.Covers.{Covers}
 use Rattle.nv_replay.specs.Follow.{Judge}
 use Rattle.nv_replay.specs.Monitor.{begun, turn, account_of, sequence}
 use Rattle.nv_replay.specs.Sequence.{cuts_of}
-use Rattle.nv_replay.specs.Version.{Running}
+use Rattle.nv_replay.specs.LettingGo.{NoneLetGo}
+use Rattle.nv_replay.specs.Version.{Running, standing_of}
 use Rattle.nv_replay.proofs.Settled.{stage_rests}
 use Rattle.nv_workers.specs.Ends.{IsAccount}
+
+-- nobody is there to be let go
+pub none_let_go : {P : Type 0} (versions : List (Running P)) → length versions ≡ 0 → NoneLetGo (map standing_of versions)
+none_let_go [] none = tt
+none_let_go (v ∷ versions) none = absurd (omega arith)
 
 module _ {P : Type 0} (g : Behaviour P) (judges : ℕ → Judge) (start : Start) (most : ℕ) (hands : List ℕ) where
   nothing : (cuts : ℕ → Option ℕ) → sequence g judges start most cuts hands [] ≡ record { log = []; lines = [] }

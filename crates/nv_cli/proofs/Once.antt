@@ -30,7 +30,8 @@ module _ {P : Type 0} (g : Behaviour P) (judges : ℕ → Judge) (start : Start)
   unfolding sequence_from
   once_from [] i log over = tt
   once_from (p ∷ ps) i log over =
-      turn_once i p (λ l o. sequence_from g judges start most cuts ps (i + 1) l o) log over (follow g (judges i) log (fresh p)) (leads over (follow g (judges i) log (fresh p)))
+      turn_once i p (λ l o. sequence_from g judges start most cuts ps (i + 1) l o) log over (plain.followed_by g judges start most cuts log i p)
+      (leads over (plain.followed_by g judges start most cuts log i p))
       (once_from ps (i + 1))
 
   -- the account of a run without planned lengths

@@ -170,10 +170,10 @@ module _ {I O T : Type 0} (took : I → Option (List (List ℕ))) (unread : I �
         asked = ran.account_is.asked;
         account = record { log = k.log; lines = map standing_of account.versions.items };
         only = ran.account_is.only;
-        is_run = run_of limits (with_hands (with_arrivals setup k.answers.came) ran.account_is.asked) rules machines (hands ++ ran.account_is.asked) versions account.versions.items k.log
+        is_run = run_of clients limits (with_hands (with_arrivals setup k.answers.came) ran.account_is.asked) rules machines (hands ++ ran.account_is.asked) versions account.versions.items k.log
             (ap (λ planned. planned ++ ran.account_is.asked) planned.same)
             (subst (λ start. IsAccount threads (judge_of rules) start limits.calls (hands ++ ran.account_is.asked) versions account.versions.items k.log)
-            (ap (λ s. start_of_arrivals s k.answers.came) set ∙ begun_alike setup k.answers.came ran.account_is.asked) ran.account_is.is_account)
+            (ap (λ s. start_of_arrivals s k.answers.came) set ∙ begun_alike setup k.answers.came ran.account_is.asked) ran.account_is.is_account) ran.account_is.stays
             are;
         says = record { put = Ok tt; ends = ends; written = puts-none sink faults };
         later = streams_of took unread said unsaid noted unnoted after;

@@ -125,6 +125,7 @@ use Rattle.nv_replay.specs.Covers.{AreEnded, times, led_times, Covers}
 use Rattle.nv_replay.specs.Follow.{Follower, fresh, Judge, no_rules, judge_of, consumed, judged, refusal_of, permit_by, refusal_by, met, decided, on_next, follow_next, follow, is_exited}
 use Rattle.nv_replay.specs.Hands.{has, is_handed, unless_handed, next_or_hand, lead_to_hand}
 use Rattle.nv_replay.specs.Lead.{Leader, is_cut, is_memory, cut_of, logged, led, unless_ended, next_call}
+use Rattle.nv_replay.specs.LettingGo.{is_let_go, NoneLetGo, stop_of, front as nv_replay_front, left_behind, let_go}
 use Rattle.nv_replay.specs.Monitor.{Part, Run, numbers, part, begun, with_span, led_line, after_lead, tracked_by, leads_on, turn_by, turn_of, turn_in, turn, told_standing, lines_of, account_of, sequence}
 use Rattle.nv_replay.specs.Permits.{Permit, given, failed, passed, took, permit}
 use Rattle.nv_replay.specs.Sequence.{Account, is_going as nv_replay_is_going, cuts_of}
@@ -158,9 +159,9 @@ use Rattle.nv_trace.specs.Trace.{number_bytes, bit, arg, fields_of, event_bytes,
 use Rattle.nv_inspect.specs.Firsts.{texts_below}
 use Rattle.nv_inspect.specs.Points.{place_of, events_to, budget_to, renews_to, at_point}
 use Rattle.nv_inspect.specs.Shown.{word_text, standing_text, place_text, heading_text, register_text, registers_text, counter_text, thread_text, live_text, threads_text, opened_text, named_text, descriptor_as, descriptor_text, descriptors_text, cell_text, byte_text, row_text, memory_line, dump_text, show_text}
-use Rattle.nv_command.specs.Help.{usage_line, script_help, transcript_help, start_help, rules_help, ring_help, memory_help, budget_help, no_budget_help, hang_help, usual_hang_help, calls_help, many_calls_help, threads_help, json_help, clients_help, log_help, index_help, stamp_help, call_help, count_help, dump_help, length_help, asm_help, option_lines, example_line, more_help, help_lines, help_of}
+use Rattle.nv_command.specs.Help.{usage_line, script_help, transcript_help, start_help, rules_help, ring_help, memory_help, budget_help, no_budget_help, hang_help, usual_hang_help, calls_help, many_calls_help, threads_help, json_help, clients_help, patience_help, log_help, index_help, stamp_help, call_help, count_help, dump_help, length_help, asm_help, option_lines, example_line, more_help, help_lines, help_of}
 use Rattle.nv_command.specs.Simple.{option_rule, flag_rule, file_rule, files_rule, word_rule, simple_app, run_options, run_app, record_app, serve_app, trail_options, look_options, trail_files, replay_app, inspect_app, rules_app, asm_app, gen_app, help_app}
-use Rattle.nv_command.specs.Words.{texts, unless_faulty, rows_of_line, number_between, number_within, in_pages, Limits, usual, service_usual, ring_of, memory_of, Allowance, allowed, allowance_from, allowance_of, calls_asked, threads_asked, limits_of, versions_asked, is_set, Parts as nv_command_Parts, parts_of, ScriptFile, script_from, script_asked, Plan, plan_of, report_plan_of, Service, service_of, index_of, Trail, trail_of, Point, point_from, point_of, range_of, dump_from, dump_of, Look, look_of, Job, rules_job_of, asm_job_of, number_in, Name, name_spelt, topic_from, topic_of, Command, run_line, serve_line, rules_line, asm_line, gen_line, record_line, replay_line, inspect_line, help_line, asked_by, command_name, after_program, command_of}
+use Rattle.nv_command.specs.Words.{texts, unless_faulty, rows_of_line, number_between, number_within, in_pages, Limits, usual, service_usual, ring_of, memory_of, Allowance, allowed, allowance_from, allowance_of, calls_asked, threads_asked, limits_of, versions_asked, is_set, Parts as nv_command_Parts, parts_of, ScriptFile, script_from, script_asked, Plan, plan_of, report_plan_of, patience_from, patience_of, Service, service_of, index_of, Trail, trail_of, Point, point_from, point_of, range_of, dump_from, dump_of, Look, look_of, Job, rules_job_of, asm_job_of, number_in, Name, name_spelt, topic_from, topic_of, Command, run_line, serve_line, rules_line, asm_line, gen_line, record_line, replay_line, inspect_line, help_line, asked_by, command_name, after_program, command_of}
 use Rattle.nv_driver.specs.Account.{process_begun, IsRunOf, run_status}
 use Rattle.nv_driver.specs.Causes.{cause_text}
 use Rattle.nv_driver.specs.Due.{RunComesTo, made_outcome, RunOwes, JobOwes, GenOwes, lack_outcome, traced_outcome, TrailOwes, replayed, files_after, shown_of, shown, RecordComesTo, RecordOwes, ServeComesTo, ServeOwes, Owes, OwesAny, IsDue, IsUntouched, Shows, Says, Answers, ServedOver, Over, AnswersOver, IsReady, IsMade, IsTraced, IsAccepted, IsRefusedAt, IsRefusedFor, IsRefusedOn, IsRefused as nv_driver_IsRefused, IsReport, IsDone, Completes, Rejects}

@@ -1,8 +1,10 @@
 // The versions of a run, beside each other.
-ghost use Rattle.std.specs.Prelude.{◌≡◌, ◌≤◌, [], IfOk, length, option_map};
+ghost use Rattle.std.specs.Prelude.{◌≡◌, ◌≤◌, [], IfOk, length, map, option_map};
 ghost use Rattle.nv_threads.specs.Threads.{threads};
 ghost use Rattle.nv_replay.specs.Account.{AreFresh};
 ghost use Rattle.nv_replay.specs.Follow.{judge_of};
+ghost use Rattle.nv_replay.specs.LettingGo.{NoneLetGo};
+ghost use Rattle.nv_replay.specs.Version.{standing_of};
 ghost use Rattle.nv_workers.specs.Ends.{IsAccount};
 ghost use Rattle.nv_cli.specs.inner.Demands.{IsAccountOnDemand};
 
@@ -61,7 +63,7 @@ pub fn run_on_demand<R: Threads + Wait + Sync, K: SyscallKernel, G: Gate + Sync>
     Ok(end(ran))
 }
 
-/// The same where nothing is demanded: the account is that with the planned lengths alone.
+/// The same where nothing is demanded: the account is that with the planned lengths alone, and no follower was let go.
 pub fn run<R: Threads + Wait + Sync, K: SyscallKernel, G: Gate + Sync>(
     rt: &R,
     alloc: Global,
@@ -78,6 +80,7 @@ pub fn run<R: Threads + Wait + Sync, K: SyscallKernel, G: Gate + Sync>(
     requires hands { length hands.now.items ≤ 8 }
     ensures start { IfOk result (λ r. K.start r.kernel ≡ K.start kernel) }
     ensures account { IfOk result (λ r. IsAccount threads (judge_of (option_map (λ f. f.now) rules.entry)) (K.known r.kernel) limits.calls hands.now.items versions.items r.versions.items (K.log r.kernel)) }
+    ensures stays { IfOk result (λ r. NoneLetGo (map standing_of r.versions.items)) }
 {
     run_on_demand(
         rt, alloc, versions, rules, kernel, gate, limits, hands, false,

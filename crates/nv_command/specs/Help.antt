@@ -61,6 +61,9 @@ json_help = codes "  --json          the report is written as JSON\n"
 abbrev pub clients_help : Text
 clients_help = codes "  --clients       clients come and go by lines on standard input and output\n"
 
+abbrev pub patience_help : Text
+patience_help = codes "  --patience MS   wait for a follower before it is let go, with --clients: 1 to 3600000; default none\n"
+
 abbrev pub log_help : Text
 log_help = codes "  --log           each event is told on standard error\n"
 
@@ -89,7 +92,7 @@ asm_help = codes "  --asm           a rule text is assembled\n"
 abbrev pub option_lines : Name → List Text
 option_lines NamesRun = script_help ∷ transcript_help ∷ rules_help ∷ ring_help ∷ memory_help ∷ budget_help ∷ hang_help ∷ calls_help ∷ threads_help ∷ json_help ∷ []
 option_lines NamesServe =
-    start_help ∷ rules_help ∷ ring_help ∷ memory_help ∷ usual_hang_help ∷ no_budget_help ∷ many_calls_help ∷ threads_help ∷ clients_help ∷ log_help ∷ []
+    start_help ∷ rules_help ∷ ring_help ∷ memory_help ∷ usual_hang_help ∷ no_budget_help ∷ many_calls_help ∷ threads_help ∷ clients_help ∷ patience_help ∷ log_help ∷ []
 option_lines NamesRecord = script_help ∷ transcript_help ∷ rules_help ∷ ring_help ∷ memory_help ∷ budget_help ∷ hang_help ∷ calls_help ∷ threads_help ∷ []
 option_lines NamesReplay = script_help ∷ transcript_help ∷ rules_help ∷ memory_help ∷ budget_help ∷ hang_help ∷ index_help ∷ []
 option_lines NamesInspect = script_help ∷ transcript_help ∷ rules_help ∷ memory_help ∷ budget_help ∷ hang_help ∷ index_help ∷ stamp_help ∷ call_help ∷ count_help ∷ dump_help ∷ length_help ∷ []

@@ -47,6 +47,7 @@ service_view service = record {
   versions = names_view service.versions.items;
   limits = limits_view service.limits;
   clients = service.clients;
+  patience = service.patience;
   log = service.log;
 }
 

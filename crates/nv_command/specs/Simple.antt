@@ -49,7 +49,8 @@ record_app = simple_app (codes "record") (run_options ++ (option_rule (codes "sc
 abbrev pub serve_app : App
 serve_app =
     simple_app (codes "serve")
-    (run_options ++ (option_rule (codes "script") ∷ flag_rule (codes "clients") ∷ flag_rule (codes "log") ∷ files_rule (codes "version") ∷ []))
+    (run_options
+    ++ (option_rule (codes "script") ∷ flag_rule (codes "clients") ∷ option_rule (codes "patience") ∷ flag_rule (codes "log") ∷ files_rule (codes "version") ∷ []))
 
 -- the options of a version that follows a trace
 abbrev pub trail_options : List Rule

@@ -144,28 +144,40 @@ plan_of json rows =
 abbrev pub report_plan_of : List Row → Option Plan
 report_plan_of rows = plan_of (is_set (codes "json") rows) rows
 
+-- For so many milliseconds, an hour at most, the leader may have waited for a follower before that one is let go; without the option for ever. Only a service with
+-- lines of clients has it.
+abbrev pub patience_from : Bool → Option Text → Option (Option ℕ)
+patience_from clients None = Some None
+patience_from true (Some patience) = option_map Some (number_between 1 3600000 patience)
+patience_from false (Some patience) = None
+
+unfoldable pub patience_of : List Row → Option (Option ℕ)
+patience_of rows = patience_from (is_set (codes "clients") rows) (first_of (codes "patience") rows)
+
 -- what a service is asked for, a run whose input comes from outside: no script where none is named; whether clients come and go by lines on
--- standard input and output; whether each event is told on standard error
+-- standard input and output; after how long a follower is let go; whether each event is told on standard error
 pub record Service : Type 0 where
   pub script : Option (List ℕ)
   pub rules : Option (List ℕ)
   pub versions : List (List ℕ)
   pub limits : Limits
   pub clients : Bool
+  pub patience : Option ℕ
   pub log : Bool
 
 unfoldable pub service_of : List Row → Option Service
 service_of rows =
-    option_map (λ parts.
+    option_and_then (λ parts. option_map (λ patience.
     record {
       script = first_of (codes "script") rows;
       rules = parts.rules;
       versions = parts.versions;
       limits = parts.limits;
       clients = is_set (codes "clients") rows;
+      patience = patience;
       log = is_set (codes "log") rows;
     })
-    (parts_of service_usual rows)
+    (patience_of rows)) (parts_of service_usual rows)
 
 -- the index that a version has in its rules
 unfoldable pub index_of : List Row → Option ℕ

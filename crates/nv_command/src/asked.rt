@@ -47,6 +47,8 @@ pub struct Service<'a> {
     pub limits: Limits,
     /// Clients come and go by lines on standard input and output.
     pub clients: bool,
+    /// Milliseconds for which the leader may have waited for a follower before that one is let go; none without the option.
+    pub patience: Option<u32>,
     /// Each event is told on standard error.
     pub log: bool,
     ghost few: { length versions.items ≤ 8 },

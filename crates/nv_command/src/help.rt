@@ -63,6 +63,9 @@ const JSON: &[u8] = b"  --json          the report is written as JSON\n";
 const CLIENTS: &[u8] =
     b"  --clients       clients come and go by lines on standard input and output\n";
 
+const PATIENCE: &[u8] =
+    b"  --patience MS   wait for a follower before it is let go, with --clients: 1 to 3600000; default none\n";
+
 const LOG: &[u8] = b"  --log           each event is told on standard error\n";
 
 const INDEX: &[u8] = b"  --index N       number of the version that rules see: 0 to 7, default 1\n";
@@ -96,7 +99,7 @@ const RUN_HELP: [&[u8]; 12] = [
     b"example: varan run --script clients update old\n",
 ];
 
-const SERVE_HELP: [&[u8]; 12] = [
+const SERVE_HELP: [&[u8]; 13] = [
     SERVE_USAGE,
     START,
     RULES,
@@ -107,6 +110,7 @@ const SERVE_HELP: [&[u8]; 12] = [
     MANY_CALLS,
     THREADS,
     CLIENTS,
+    PATIENCE,
     LOG,
     b"example: varan serve --clients update old\n",
 ];

@@ -54,6 +54,7 @@ const SERVE: Form = Form {
     rest: &[
         ("script", Kind::Value),
         ("clients", Kind::Flag),
+        ("patience", Kind::Value),
         ("log", Kind::Flag),
         ("version", Kind::Files),
     ],

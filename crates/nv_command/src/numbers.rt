@@ -2,11 +2,11 @@
 ghost use Rattle.std.specs.Prelude.{◌≡◌, ◌≤◌, ◌%◌, max, IfSome, option_map};
 ghost use Rattle.clap.specs.Matches.{found_of};
 ghost use Rattle.clap.specs.Walk.{rows_of};
-ghost use Rattle.nv_command.specs.Words.{number_between, number_within, in_pages, ring_of, memory_of, allowed, allowance_from, allowance_of, calls_asked, threads_asked, limits_of, index_of};
+ghost use Rattle.nv_command.specs.Words.{number_between, number_within, in_pages, ring_of, memory_of, allowed, allowance_from, allowance_of, calls_asked, threads_asked, limits_of, patience_from, patience_of, index_of};
 ghost use Rattle.nv_command.specs.Seen.{limits_view, allowance_view};
 
 use crate::limits::{Allowance, Limits};
-use crate::matching::text;
+use crate::matching::{is_set, text};
 use clap::ArgMatches;
 
 // Bytes of a page of a guest's memory.
@@ -138,6 +138,28 @@ pub fn limits(defaults: Limits, matches: &ArgMatches<'_>) -> Option<Limits>
         calls,
         threads,
     })
+}
+
+// Milliseconds of the longest patience, an hour.
+const MOST_PATIENCE: u32 = 3_600_000;
+
+// Only a service with lines of clients has a patience.
+fn patience_from(clients: bool, text: Option<&str>) -> Option<Option<u32>>
+    ensures { result ≡ patience_from clients (option_map (λ text. text.now) text.entry) }
+{
+    match (clients, text) {
+        (_, None) => Some(None),
+        (true, Some(text)) => Some(Some(number_between(1, MOST_PATIENCE, text)?)),
+        (false, Some(_)) => None,
+    }
+}
+
+/// Milliseconds for which the leader of a service may have waited for a follower before that one is let go, if there is a limit.
+#[tactic(auto, unfolding(crate::specs::Words::patience_of))]
+pub fn patience(matches: &ArgMatches<'_>) -> Option<Option<u32>>
+    ensures { result ≡ patience_of (rows_of (found_of matches.now)) }
+{
+    patience_from(is_set(matches, "clients"), text(matches, "patience"))
 }
 
 /// The index that a version has in its rules.

@@ -11,7 +11,7 @@ use crate::limits::Limits;
 use crate::looks::look;
 use crate::matching::{is_set, matched, text, values};
 use crate::names::Name;
-use crate::numbers::{limits, number_between};
+use crate::numbers::{limits, number_between, patience};
 use crate::parts::Parts;
 use crate::scripts::script;
 use crate::trails::trail;
@@ -78,6 +78,7 @@ fn served<'a>(alloc: Global, matches: &ArgMatches<'a>) -> Result<Service<'a>, Li
     ensures refused { IfErr result (λ fault. fault ≡ LineFault.Usage → service_of (rows_of (found_of matches.now)) ≡ None) }
 {
     let parts = parts_of(Limits::of_service(), matches).ok_or(LineFault::Usage)?;
+    let patience = patience(matches).ok_or(LineFault::Usage)?;
     let versions = parts.names.to_vec(alloc)?;
     Ok(Service {
         script: text(matches, "script"),
@@ -85,6 +86,7 @@ fn served<'a>(alloc: Global, matches: &ArgMatches<'a>) -> Result<Service<'a>, Li
         versions,
         limits: parts.limits,
         clients: is_set(matches, "clients"),
+        patience,
         log: is_set(matches, "log"),
     })
 }

@@ -304,7 +304,7 @@ module _ (words : List (List ℕ)) (source : Source) (service : Service) (asked 
     (before : Option (List ℕ)) (faults status : ℕ) (after : Option (List ℕ)) (later : ℕ) where
   -- versions that ran over what came have an outcome of the live run
   abbrev pub served_answers : source.later_faults ≡ source.faults → (setup : Setup) (rules : Option (List Op)) (machines : List Machine) → LiveComesTo service source.holds (Ready setup rules machines)
-      → (arrivals : List Arrival) (lengths : List ℕ) (account : Account) → (service.clients ≡ false → lengths ≡ []) → IsRunOf service.limits (with_hands (with_arrivals setup arrivals) lengths) rules machines account
+      → (arrivals : List Arrival) (lengths : List ℕ) (account : Account) → (service.clients ≡ false → lengths ≡ []) → IsRunOf service.clients service.limits (with_hands (with_arrivals setup arrivals) lengths) rules machines account
       → Says [] (run_status account.lines) before faults status after later
       → Answers words source before faults status after later
   served_answers kept setup rules machines files arrivals lengths account only is_run says =

@@ -99,14 +99,14 @@ made_next setup files vs vs' k file v longer small at all h =
 
 -- what the run of a number owes, from what it came to
 pub made_owes : (n : ℕ) (setup : Setup) (filter rules : Option (List Op)) (machines : List Machine) (limits : Limits) (account : Account) → IsMadeRun n setup filter machines
-    → rules ≡ filter → limits ≡ usual → IsRunOf limits setup rules machines account → list_any (λ line. is_memory line.fate) account.lines ≡ false → GenOwes n (Summed n setup account)
+    → rules ≡ filter → limits ≡ usual → IsRunOf false limits setup rules machines account → list_any (λ line. is_memory line.fate) account.lines ≡ false → GenOwes n (Summed n setup account)
 made_owes n setup filter rules machines limits account made r l run never = record {
   setup = setup;
   filter = filter;
   machines = machines;
   made = made;
   account = account;
-  is_run = subst (λ (x : Limits). IsRunOf x setup filter machines account) l (subst (λ (rs : Option (List Op)). IsRunOf limits setup rs machines account) r run);
+  is_run = subst (λ (x : Limits). IsRunOf false x setup filter machines account) l (subst (λ (rs : Option (List Op)). IsRunOf false limits setup rs machines account) r run);
   never_starved = never;
   comes = refl;
 }

@@ -1,5 +1,5 @@
 -- A whole run.
-use Rattle.std.specs.Prelude.{◌≡◌, ℕ, List, [], Option, map, if◌then◌else◌}
+use Rattle.std.specs.Prelude.{◌≡◌, ℕ, Bool, false, List, [], Option, map, if◌then◌else◌}
 use Rattle.std.specs.List.{list_any}
 use Rattle.nv_bpf.specs.declared.op.Op.{Op}
 use Rattle.nv_machine.specs.Guest.{Machine}
@@ -10,6 +10,7 @@ use Rattle.nv_threads.specs.Threads.{Proc, threads, started}
 use Rattle.nv_replay.specs.declared.standing.Standing.{Standing}
 use Rattle.nv_replay.specs.Follow.{is_exited, judge_of}
 use Rattle.nv_replay.specs.Lead.{is_memory}
+use Rattle.nv_replay.specs.LettingGo.{NoneLetGo}
 use Rattle.nv_replay.specs.Sequence.{Account, cuts_of}
 use Rattle.nv_replay.specs.Monitor.{sequence}
 use Rattle.nv_replay.specs.Account.{AreSettled}
@@ -22,10 +23,12 @@ process_begun limits setup machine = started machine limits.budget limits.renews
 
 -- The account is that of the sequential monitor over what the script says, its planned lengths, this filter and these machines, with at most as many events as the limits say and with the cuts that it tells.
 -- Each version has one fate, and each event lies in exactly one of the spans; where no length is planned each version led at most one. One that exited without a rewrite would come to this log alone.
-pub record IsRunOf (limits : Limits) (setup : Setup) (rules : Option (List Op)) (machines : List Machine) (account : Account) : Type 0 where
+-- Nobody was let go where followers may not be.
+pub record IsRunOf (lets_go : Bool) (limits : Limits) (setup : Setup) (rules : Option (List Op)) (machines : List Machine) (account : Account) : Type 0 where
   pub is_account : account ≡ sequence threads (judge_of rules) (start_from setup) limits.calls (cuts_of account.lines) setup.hands (map (process_begun limits setup) machines)
   pub settled : AreEnded account.lines
   pub covers : Covers account.lines account.log
+  pub stays : lets_go ≡ false → NoneLetGo account.lines
   pub unplanned : setup.hands ≡ [] → AreSettled account.lines
   pub survivor : SurvivorsAgree threads (start_from setup) limits.calls setup.hands (map (process_begun limits setup) machines) account.lines account.log
 

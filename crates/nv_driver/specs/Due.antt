@@ -39,7 +39,7 @@ abbrev pub RunComesTo : Plan → Prepared → Outcome → Type 0
 RunComesTo plan (Unreadable place) outcome = outcome ≡ NotRead (name_at place plan)
 RunComesTo plan (Refused place cause) outcome = outcome ≡ NotAccepted (limit_at place plan) (name_at place plan) cause
 RunComesTo plan (Ready setup rules machines) outcome =
-    (account : Account) × (outcome ≡ Reported plan.json setup account) × IsRunOf plan.limits setup rules machines account
+    (account : Account) × (outcome ≡ Reported plan.json setup account) × IsRunOf false plan.limits setup rules machines account
 
 -- A command over one file makes its text, or the file can't be read or is refused.
 abbrev pub made_outcome : Job → Result (List ℕ) Unmade → Outcome
@@ -67,7 +67,7 @@ pub record GenOwes (n : ℕ) (outcome : Outcome) : Type 0 where
   pub machines : List Machine
   pub made : IsMadeRun n setup filter machines
   pub account : Account
-  pub is_run : IsRunOf usual setup filter machines account
+  pub is_run : IsRunOf false usual setup filter machines account
   pub never_starved : list_any (λ line. is_memory line.fate) account.lines ≡ false
   pub comes : outcome ≡ Summed n setup account
 
@@ -107,7 +107,7 @@ abbrev pub RecordComesTo : Plan → Prepared → Outcome → Type 0
 RecordComesTo plan (Unreadable place) outcome = outcome ≡ NotRead (name_at place plan)
 RecordComesTo plan (Refused place cause) outcome = outcome ≡ NotAccepted (limit_at place plan) (name_at place plan) cause
 RecordComesTo plan (Ready setup rules machines) outcome =
-    (account : Account) × (outcome ≡ Recorded account) × IsRunOf plan.limits setup rules machines account × (list_any (λ line. is_memory line.fate) account.lines ≡ false)
+    (account : Account) × (outcome ≡ Recorded account) × IsRunOf false plan.limits setup rules machines account × (list_any (λ line. is_memory line.fate) account.lines ≡ false)
 
 pub record RecordOwes (plan : Plan) (holds : List ℕ → Told) (outcome : Outcome) : Type 0 where
   pub finds : Finds
@@ -115,13 +115,13 @@ pub record RecordOwes (plan : Plan) (holds : List ℕ → Told) (outcome : Outco
   pub comes : RecordComesTo plan (prepared plan.limits finds) outcome
 
 -- A live run comes to its first file that can't be read or is refused, or else to an account of the sequential monitor over what its script says and what came, which hands over at the script's planned lengths and
--- at those that were asked for by an operator's words. Only lines of clients have such words.
+-- at those that were asked for by an operator's words. Only lines of clients have such words, and only over them a follower may be let go.
 abbrev pub ServeComesTo : Service → Prepared → Outcome → Type 0
 ServeComesTo service (Unreadable place) outcome = outcome ≡ NotRead (name_in place service)
 ServeComesTo service (Refused place cause) outcome = outcome ≡ NotAccepted FILE_LIMIT (name_in place service) cause
 ServeComesTo service (Ready setup rules machines) outcome =
     (arrivals : List Arrival) × (asked : List ℕ) × (account : Account) × (outcome ≡ Served (with_arrivals setup arrivals) account)
-    × (service.clients ≡ false → asked ≡ []) × IsRunOf service.limits (with_hands (with_arrivals setup arrivals) asked) rules machines account
+    × (service.clients ≡ false → asked ≡ []) × IsRunOf service.clients service.limits (with_hands (with_arrivals setup arrivals) asked) rules machines account
 
 pub record ServeOwes (service : Service) (holds : List ℕ → Told) (outcome : Outcome) : Type 0 where
   pub finds : Finds

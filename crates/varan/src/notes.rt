@@ -1,5 +1,6 @@
 // What an operator is told on standard error while a live run goes on: comments of its transcript.
 
+use crate::patience::Patience;
 use itoa::Buffer;
 use nv_arrivals::ArrivalCause;
 use nv_calls::Event;
@@ -39,12 +40,22 @@ pub enum Telling {
     Events(u32),
 }
 
-/// Comments on standard error, each by one write where the system takes it whole, so that those of several versions don't mix.
+/// What the words of a line ask for while a live run goes on.
+#[derive(Clone, Copy, Debug, PartialEq, Eq)]
+pub struct Wishes {
+    pub telling: Telling,
+    /// Milliseconds after which a follower is let go, if there is a limit.
+    pub patience: Option<u32>,
+}
+
+/// Comments on standard error, each by one write where the system takes it whole, so that those of several versions don't mix; and how long a follower
+/// may hold the leader.
 #[derive(Drop)]
-pub struct Notes {
+pub struct Notes<'a> {
     alloc: Global,
     stderr: Stderr,
     telling: Telling,
+    patience: Option<Patience<'a>>,
 }
 
 fn put_end<S: Sink>(sink: &mut S, version: VersionNumber, fate: Fate, seen: u32) -> Put {
@@ -62,6 +73,21 @@ fn put_end<S: Sink>(sink: &mut S, version: VersionNumber, fate: Fate, seen: u32)
     put_pieces(
         sink,
         &[b", after ", events.format(seen).as_bytes(), b" events\n"],
+    )
+}
+
+fn put_let_go<S: Sink>(sink: &mut S, version: VersionNumber, behind: u64) -> Put {
+    let mut number = Buffer::new();
+    let mut events = Buffer::new();
+    put_pieces(
+        sink,
+        &[
+            b"# version ",
+            number.format(version.0).as_bytes(),
+            b" is let go: it is ",
+            events.format(behind).as_bytes(),
+            b" events behind\n",
+        ],
     )
 }
 
@@ -150,12 +176,13 @@ fn put_made<S: Sink>(sink: &mut S, made: u32, most: u32) -> Put {
     )
 }
 
-impl Notes {
-    pub fn make(rt: &HostRuntime, telling: Telling) -> Notes {
+impl<'a> Notes<'a> {
+    pub fn make(rt: &'a HostRuntime, wishes: Wishes) -> Notes<'a> {
         Notes {
             alloc: rt.alloc(),
             stderr: rt.stderr(),
-            telling,
+            telling: wishes.telling,
+            patience: wishes.patience.map(|millis| Patience::make(rt, millis)),
         }
     }
 
@@ -199,7 +226,7 @@ impl Notes {
     }
 }
 
-impl Gate for Notes {
+impl Gate for Notes<'_> {
     fn at_rewrite(&self, version: VersionNumber, event: &Event, rewrites: u64) {
         let is_told = match self.telling {
             Telling::Nothing => false,
@@ -215,9 +242,37 @@ impl Gate for Notes {
         }
     }
 
-    fn before_publish(&self, _version: VersionNumber, _stamp: u32) {}
+    fn before_publish(&self, version: VersionNumber, stamp: u32) {
+        if let Some(patience) = &self.patience {
+            patience.at_publish(version, stamp);
+        }
+    }
 
-    fn after_take(&self, _version: VersionNumber, _stamp: u32) {}
+    fn after_take(&self, version: VersionNumber, stamp: u32) {
+        if let Some(patience) = &self.patience {
+            patience.at_pass(version, stamp);
+        }
+    }
+
+    fn at_wait(&self, _version: VersionNumber) {
+        if let Some(patience) = &self.patience {
+            patience.at_wait();
+        }
+    }
+
+    fn lets_go(&self, version: VersionNumber, passed: u32) -> bool {
+        let Some(patience) = &self.patience else {
+            return false;
+        };
+        let Some(behind) = patience.behind(version, passed) else {
+            return false;
+        };
+        if let Some(mut line) = self.line() {
+            let put = put_let_go(&mut line, version, behind);
+            self.write(&line, put);
+        }
+        true
+    }
 
     fn after_publish(&self, _version: VersionNumber, event: &Event) {
         match self.telling {

@@ -1,6 +1,6 @@
 // The words of the command line.
-use crate::notes::Telling;
-use nv_command::{Command, LineFault, Name};
+use crate::notes::{Telling, Wishes};
+use nv_command::{Command, LineFault, Name, Service};
 use std::{env, io};
 
 // Arguments are refused where one of them isn't text.
@@ -30,18 +30,32 @@ pub fn is_service(words: &Result<Vec<String>, LineFault>) -> bool {
     }
 }
 
-fn told_of(asked: Result<Command<'_>, LineFault>) -> Telling {
-    match asked {
-        Ok(Command::Serve(service)) if service.log => Telling::Events(service.limits.calls),
-        Ok(Command::Serve(service)) => Telling::Ends(service.limits.calls),
-        _ => Telling::Nothing,
+// What no other command than `serve` asks for.
+const NO_WISHES: Wishes = Wishes {
+    telling: Telling::Nothing,
+    patience: None,
+};
+
+fn wished_of(service: &Service<'_>) -> Wishes {
+    let calls = service.limits.calls;
+    let telling = if service.log {
+        Telling::Events(calls)
+    } else {
+        Telling::Ends(calls)
+    };
+    Wishes {
+        telling,
+        patience: service.patience,
     }
 }
 
-/// What a live run tells on standard error while it goes on.
-pub fn telling(rt: &HostRuntime, words: &Result<Vec<String>, LineFault>) -> Telling {
-    match words {
-        Ok(words) => told_of(nv_command::read(rt.alloc(), words.as_slice())),
-        Err(_) => Telling::Nothing,
+/// What a live run tells on standard error while it goes on, and when it lets a follower go.
+pub fn wishes(rt: &HostRuntime, words: &Result<Vec<String>, LineFault>) -> Wishes {
+    let Ok(words) = words else {
+        return NO_WISHES;
+    };
+    match nv_command::read(rt.alloc(), words.as_slice()) {
+        Ok(Command::Serve(service)) => wished_of(&service),
+        _ => NO_WISHES,
     }
 }

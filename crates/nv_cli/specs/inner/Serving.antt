@@ -70,7 +70,7 @@ pub record Served (limits : Limits) (clients : Bool) (setup : Setup) (rules : Op
   pub asked : List ℕ
   pub account : Account
   pub only : clients ≡ false → asked ≡ []
-  pub is_run : IsRunOf limits (with_hands (with_arrivals setup arrivals) asked) rules machines account
+  pub is_run : IsRunOf clients limits (with_hands (with_arrivals setup arrivals) asked) rules machines account
   pub says : Says [] (run_status account.lines) before faults status after later_faults
   pub later : Streams
   pub ending : Ending

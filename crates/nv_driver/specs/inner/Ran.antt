@@ -15,7 +15,7 @@ use Rattle.nv_driver.specs.Due.{Says}
 -- The versions ran and their report was written, or its JSON form; or the write failed.
 pub record Ran (limits : Limits) (json : Bool) (setup : Setup) (rules : Option (List Op)) (machines : List Machine) (before : Option (List ℕ)) (faults : ℕ) (status : ℕ) (after : Option (List ℕ)) (later_faults : ℕ) : Type 0 where
   pub account : Account
-  pub is_run : IsRunOf limits setup rules machines account
+  pub is_run : IsRunOf false limits setup rules machines account
   pub says : Says (account_text json setup account) (run_status account.lines) before faults status after later_faults
 
 -- That is so, or memory was wanted for the run or for its JSON form.
@@ -26,7 +26,7 @@ RunSays limits json setup rules machines before faults status after later_faults
 -- The versions ran, none of them wanted memory, and the trace of their log was written; or the write failed.
 pub record RanRecorded (limits : Limits) (setup : Setup) (rules : Option (List Op)) (machines : List Machine) (before : Option (List ℕ)) (faults : ℕ) (status : ℕ) (after : Option (List ℕ)) (later_faults : ℕ) : Type 0 where
   pub account : Account
-  pub is_run : IsRunOf limits setup rules machines account
+  pub is_run : IsRunOf false limits setup rules machines account
   pub never_starved : list_any (λ line. is_memory line.fate) account.lines ≡ false
   pub says : Says (trace_of account.log) (run_status account.lines) before faults status after later_faults
 

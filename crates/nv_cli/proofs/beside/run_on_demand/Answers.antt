@@ -5,7 +5,7 @@ use Rattle.nv_room.specs.Seats.{hands_of, on_demand_of}
 use Rattle.nv_workers.specs.Ends.{IsAccount}
 use Rattle.nv_workers.proofs.NewSeats.{as_made}
 use Rattle.nv_cli.proofs.Demands.{unasked}
-use Rattle.nv_cli.proofs.NoVersions.{no_versions}
+use Rattle.nv_cli.proofs.NoVersions.{no_versions, none_let_go}
 use Rattle.nv_cli.proofs.beside.run_on_demand.Goals as goal
 
 pub returns-then-is_empty-clause-account : goal.returns-then-is_empty-clause-account
@@ -14,6 +14,7 @@ returns-then-is_empty-clause-account g c =
     (g.K.SyscallKernel.log c.args.kernel)
     (no_versions threads (judge_of (option_map (λ f. f.now) c.args.rules)) (g.K.SyscallKernel.known c.args.kernel) c.args.limits.calls c.args.hands.now.items c.args.versions.items (g.K.SyscallKernel.log c.args.kernel)
     (search rules) c.requires.empty)
+    (none_let_go c.args.versions.items (search rules))
 
 pub staff-requires-clause-seats : goal.staff-requires-clause-seats
 staff-requires-clause-seats g c κs within =
@@ -51,6 +52,8 @@ returns-clause-account g c =
     record {
       asked = a.0;
       only = λ off. a.1 (ap on_demand_of room ∙ m.on_demand ∙ off);
+      stays = λ off. c.end.ensures.stays judges c.args.limits.calls c.args.versions.items (c.in_ok-ran.ensures.ran c.args.versions.items (c.in_ok-workers.ensures.new c.in_ok-room.room
+          (as_made c.in_ok-room.room c.in_ok-room.readers.items c.in_ok-room.lead m.readers.1 m.lead m.log))) (ap on_demand_of room ∙ m.on_demand ∙ off);
       is_account = subst (λ (hands : List ℕ). IsAccount threads judges (g.K.SyscallKernel.known c.end.result.kernel) c.args.limits.calls (hands ++ a.0) c.args.versions.items c.end.result.versions.items
           (g.K.SyscallKernel.log c.end.result.kernel)) (ap hands_of room ∙ m.hands) a.2;
     }

@@ -45,7 +45,7 @@ returns g c = λ machines are.
     ap (λ (versions : List (Running Proc)). list_any (λ line. is_memory line.fate) (map standing_of versions)) (sym c.deref.ensures.value) ∙ sym c.starved.ensures ∙ c.if-starved.false in
     inl (record {
       account = record { log = log; lines = lines };
-      is_run = run_of limits c.args.kernel.setup rules machines c.args.hands.now.items c.args.versions.items c.in-Ok.account.versions.items log c.requires.planned.same told are;
+      is_run = run_of false limits c.args.kernel.setup rules machines c.args.hands.now.items c.args.versions.items c.in-Ok.account.versions.items log c.requires.planned.same told (λ off. c.in-Ok.ensures.stays) are;
       never_starved = never;
       says = c.put_trace.ensures;
     })

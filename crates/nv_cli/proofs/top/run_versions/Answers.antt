@@ -1,6 +1,6 @@
 use denote.Exit.{no}
 use denote.Param.Send.{param_send, arg_send}
-use Rattle.std.proofs.Common.{◌++◌, ap, codes, inl, inr, ⊎_elim, subst, map, option_map}
+use Rattle.std.proofs.Common.{◌++◌, ap, codes, false, inl, inr, ⊎_elim, subst, map, option_map}
 use Rattle.nv_calls.specs.Logs.{Start, output_of, connections_of}
 use Rattle.nv_arriving.specs.Scripted.{start_from}
 use Rattle.nv_command.specs.Seen.{limits_view}
@@ -38,7 +38,7 @@ returns-then-json g c = λ machines are.
     (ap start_from c.in-Ok.ensures.start) c.put_json.ensures in
     ⊎_elim (λ said. inl (record {
       account = record { log = log; lines = lines };
-      is_run = run_of limits setup rules machines c.args.hands.now.items c.args.versions.items c.in-Ok.account.versions.items log c.requires.planned.same told are;
+      is_run = run_of false limits setup rules machines c.args.hands.now.items c.args.versions.items c.in-Ok.account.versions.items log c.requires.planned.same told (λ off. c.in-Ok.ensures.stays) are;
       says = rw c.if-json.true said;
     })) inr says
 
@@ -52,7 +52,7 @@ returns g c = λ machines are.
     let told = subst (λ (start : Start). IsAccount threads (judge_of rules) start limits.calls c.args.hands.now.items c.args.versions.items c.in-Ok.account.versions.items log) (ap start_from c.in-Ok.ensures.start) c.in-Ok.ensures.account in
     inl (record {
       account = record { log = log; lines = lines };
-      is_run = run_of limits setup rules machines c.args.hands.now.items c.args.versions.items c.in-Ok.account.versions.items log c.requires.planned.same told are;
+      is_run = run_of false limits setup rules machines c.args.hands.now.items c.args.versions.items c.in-Ok.account.versions.items log c.requires.planned.same told (λ off. c.in-Ok.ensures.stays) are;
       says = rw c.if-json.false (subst
           (λ (s : Start). Says (report_text (output_of s log) (record { log = log; lines = lines }) ++ connections_text (connections_of s log))
           (run_status lines) (g.S.Sink.told c.args.sink.now) (g.S.Sink.faults c.args.sink.now) c.put_report.result (g.S.Sink.told c.put_report.new.sink) (g.S.Sink.faults c.put_report.new.sink))

@@ -55,7 +55,7 @@ returns-in-Ok-summary g c =
     let begin : map process_of c.args.made.versions.items ≡ map (process_begun limits setup) made.machines =
     made.processes ∙ ap (λ (x : Limits). map (process_begun x setup) made.machines) (sym c.usual-limits.ensures) in
     let told = subst (λ (start : Start). IsAccount threads (judge_of rules) start limits.calls c.args.made.hands.items c.args.made.versions.items c.in-Ok.account.versions.items log) (ap start_from c.in-Ok.ensures.start) c.in-Ok.ensures.account in
-    let run = run_of limits setup rules made.machines c.args.made.hands.items c.args.made.versions.items c.in-Ok.account.versions.items log c.requires.planned.same told begin in
+    let run = run_of false limits setup rules made.machines c.args.made.hands.items c.args.made.versions.items c.in-Ok.account.versions.items log c.requires.planned.same told (λ off. c.in-Ok.ensures.stays) begin in
     let never : list_any (λ line. is_memory line.fate) lines ≡ false =
     ap (λ (versions : List (Running Proc)). list_any (λ line. is_memory line.fate) (map standing_of versions)) (sym c.deref.ensures.value) ∙ sym c.starved.ensures ∙ c.if-starved.false in
     let text : c.deref-in-Ok-summary.result.now ≡ summary n (totals_of (output_of (start_from setup) log) account) =
