@@ -1,6 +1,6 @@
 /*
  * A service that keeps names and values, over TCP: the answers of ../guests/service.c, a line each, for one client after the other. What it keeps lasts from client to client.
- * Two requests more: `say TEXT` writes the text on the console too; `size` gets how many requests were answered, of all clients.
+ * With -DSLOW=N it is slow. Two requests more: `say TEXT` writes the text on the console too; `size` gets how many requests were answered, of all clients.
  */
 #include "../guests/linux.h"
 #include "../guests/store.h"
@@ -13,9 +13,21 @@ enum { AF_INET = 2, SOCK_STREAM = 1, LINUX_EAGAIN = 11, PORT = 8080 };
 
 static unsigned requests;
 
+#ifdef SLOW
+/* A version that is slow goes round a loop so often before each answer, as one with checks takes longer. */
+static void dawdle(void)
+{
+    for (volatile unsigned turns = 0; turns < SLOW; turns++)
+        ;
+}
+#else
+#define dawdle()
+#endif
+
 static const char *answer(char *request)
 {
     static char count[12];
+    dawdle();
     char *word = strtok(request, " ");
     char *name = strtok(NULL, " ");
     char *value = strtok(NULL, "");

@@ -23,6 +23,7 @@ import time
 HERE = pathlib.Path(__file__).resolve().parent
 KEEPER = {number: str(HERE / f"built/keeper_{number}") for number in (1, 2, 3)}
 LOOP = str(HERE / "built/loop_1")
+SLOW = str(HERE / "built/keeper_slow")
 SECONDS = 300
 # Seconds that a client may be silent, and the words for one that is silent while something else is done.
 IDLE = 3
@@ -240,7 +241,7 @@ def joining(rows, program):
     other = service.folder / "other"
     other.write_bytes(pathlib.Path(KEEPER[1]).read_bytes().replace(b"kept\0", b"KEPT\0"))
     other.chmod(0o755)
-    rows.same(service.operate(f"join {other} 0")[-1], f"no: it says `data 0 {b'KEPT'.hex()}0a` where clients got `data 0 {b'kept'.hex()}0a`", "an update that answers the past otherwise")
+    rows.same(service.operate(f"join {other} 0")[-1], f"no: it says `data 0 {b'KEPT'.hex()}0a` where the service said `data 0 {b'kept'.hex()}0a`", "an update that answers the past otherwise")
     answer = service.operate(f"join {KEEPER[2]} 0")[-1]
     rows.holds(answer.startswith(f"no: 0 {KEEPER[2]} ended: fault load "), "an update that breaks while it catches up", answer)
     answer = service.operate(f"join {service.folder / 'nothing'}")[-1]
@@ -266,6 +267,20 @@ def joining(rows, program):
     rows.same(service.process.wait(SECONDS), 0, "the status after stop")
     rows.holds(not service.control.exists(), "the control socket is gone", "it is there")
     rows.same(sum(it.name.endswith(".behind") for it in service.transcripts.iterdir()), 3, "transcripts of processes that never caught up")
+
+
+def silent_client(rows, program):
+    """A client that is silent holds the next one for --idle seconds, also if a version joins meanwhile."""
+    service = Service(program, KEEPER[1])
+    begun = time.monotonic()
+    silent = service.connect()
+    until(lambda: service.operate("status")[0].startswith("clients 1 "), "the silent client")
+    rows.same(service.operate(f"join {KEEPER[3]}")[-1], "ok", "a version joins behind a silent client")
+    rows.same(service.ask("size"), ["1"], "the next client")
+    took = time.monotonic() - begun
+    rows.holds(IDLE - 0.5 < took < 1.5 * IDLE, "how long the silent client held it", took)
+    silent.close()
+    rows.same(service.end(), 0, "the status after a silent client")
 
 
 def held_command(program):
@@ -408,7 +423,7 @@ def handing(rows, program):
     rows.same(service.operate(f"join {KEEPER[3]}")[-1], "ok", "a version joins")
     # Before the request after it are the calls socket, bind, listen and accept, and a read and a write; its read is the next one.
     answer = service.operate("hand")
-    rows.holds(answer[0].startswith("no call was served yet") and answer[-1] == "ok", "a hand-over while nobody asks", answer)
+    rows.holds(answer[0].startswith("the leader gives up the lead with the next call") and answer[-1] == "ok", "a hand-over while nobody asks", answer)
     rows.same(service.operate("hand"), ["no: a hand-over waits for the next call that is served"], "a second one at once")
     rows.same(service.roles(), [(KEEPER[1], "leads"), (KEEPER[3], "follows")], "who leads before the next call")
     rows.same(client.ask("get colour"), ["green"], "the request at which the lead is handed over")
@@ -514,6 +529,67 @@ def falling_back(rows, program):
     rows.same(service.end(), 0, "the status after a break")
 
 
+def breaking_and_leaving(rows, program):
+    """The operator is told of a break also if the process that reports it is replaced, or killed, at once."""
+    service = Service(program, KEEPER[1], KEEPER[2], options=PATIENT)
+    client = service.connect()
+    rows.same(client.ask("put colour green"), ["kept"], "the past")
+    rows.same(service.operate("hand")[-1], "ok", "the lead is to be handed over")
+    rows.same(client.ask("get colour", "drop colour", "get size", "get colour"), ["green", "dropped", "not there", "not there"], "the requests at which the version takes the lead and breaks")
+    rows.same(service.operate(f"join {KEEPER[3]}")[-1], "ok", "the next version joins at once")
+    rows.same(news(service), ["1 leads", "1 ended", "0 leads", "serve"], "what is told before the process is replaced")
+    client.close()
+    rows.same(service.end(), 0, "the status after it")
+
+    service = Service(program, KEEPER[2], KEEPER[1], options=PATIENT)
+    client = service.connect()
+    rows.same(client.ask("put colour green", "get colour", "drop colour", "get size", "get colour"), ["kept", "green", "dropped", "not there", "not there"], "the requests at which the first version breaks")
+    until(lambda: service.roles() == [(KEEPER[2], "ended:"), (KEEPER[1], "leads")], "the other one leads")
+    os.kill(service.serving(), signal.SIGKILL)
+    rows.same(client.ask("size"), ["6"], "the request after the command was killed")
+    rows.same(news(service), ["0 ended", "1 leads", "begun anew"], "what is told before it is begun anew")
+    client.close()
+    rows.same(service.end(), 0, "the status after that")
+
+
+def news(service):
+    """What the operator was told so far of who ended, who leads and which process serves."""
+    told = re.findall(r"^# varan-listen: (?:version (\d (?:leads|ended))|these versions (serve)|the command was ended .*(begun anew))", service.notes(), re.M)
+    return ["".join(it) for it in told]
+
+
+def letting_go(rows, program):
+    """A follower that can't keep up holds the leader until it is let go; the others follow on, and the next of them leads after a break. Without --patience it holds it, and isn't let go."""
+    requests = ["put colour green"] * 40
+    words = ["--ring", "8", "--patience", "50"]
+    service = Service(program, KEEPER[2], SLOW, KEEPER[1], options=PATIENT, words=words)
+    client = service.connect()
+    rows.same(client.ask(*requests), ["kept"] * 40, "the answers beside a slow follower")
+    until(lambda: re.search(r"^# version 1 is let go: it is \d+ events behind\n# version 1 ended: left, after \d+ events$", service.transcript().read_text(), re.M), "the slow one is let go")
+    until(lambda: service.roles() == [(KEEPER[2], "leads"), (SLOW, "ended:"), (KEEPER[1], "follows")], "who is left")
+    rows.same(client.ask("get colour", "drop colour", "get size", "size"), ["green", "dropped", "not there", "44"], "the request at which the leader breaks, and the next")
+    until(lambda: service.roles() == [(KEEPER[2], "ended:"), (SLOW, "ended:"), (KEEPER[1], "leads")], "the one that kept up leads")
+    told = fates_told(service)
+    rows.holds([it.split()[0] for it in told] == ["fault", "left"], "how they ended", told)
+    seen = int(re.search(r"^# version 1 ended: left, after (\d+) events$", service.transcript().read_text(), re.M)[1])
+    rows.holds(0 < seen < 2 * 40, "how far the slow one was", seen)
+    client.close()
+    transcript = service.transcript()
+    rows.same(service.end(), 0, "the status")
+    again = subprocess.run([program, "run", "--calls", "131072", "--hang", "100000000", "--script", transcript, KEEPER[2], KEEPER[1]], stdout=subprocess.PIPE, text=True, errors="replace").stdout
+    rows.same(re.findall(r"^[01] (fault load|exited 0) ", again, re.M), ["fault load", "exited 0"], "the transcript's run without the one that was let go")
+
+    service = Service(program, KEEPER[1], SLOW, options=PATIENT, words=["--ring", "8"])
+    rows.same(service.ask(*requests[:4], "size"), ["kept"] * 4 + ["5"], "the answers beside a slow follower that isn't let go")
+    until(lambda: service.roles() == [(KEEPER[1], "leads"), (SLOW, "follows")], "both are there")
+    rows.same(service.end(), 0, "the status with a slow follower")
+
+
+def fates_told(service):
+    """How versions ended, by the transcript of the process that serves."""
+    return sorted(re.findall(r"^# version \d ended: (.*), after \d+ events$", service.transcript().read_text(), re.M))
+
+
 def failing(rows, program):
     """The operator is told why a run ended that a client's request broke, also where others came that it didn't take; and why one can't begin, or go on."""
     service = Service(program, KEEPER[2], options=PATIENT)
@@ -563,7 +639,7 @@ def reloading(rows, program):
         service.process.send_signal(signal.SIGHUP)
         until(lambda: why in service.notes(), f"the operator is told of {what}")
         rows.same(service.roles(), [(str(file), "leads")], f"who leads after {what}")
-    rows.holds(f"it says `data 0 {b'KEPT'.hex()}0a` where clients got `data 0 {b'kept'.hex()}0a`" in service.notes(), "both lines", service.notes())
+    rows.holds(f"it says `data 0 {b'KEPT'.hex()}0a` where the service said `data 0 {b'kept'.hex()}0a`" in service.notes(), "both lines", service.notes())
     killed_once(service, asking)
     rows.same(service.roles(), [(str(file), "leads")], "the version as it was leads a process that is begun anew")
     put(old.replace(b"not there\0", b"NOT THERE\0"))
@@ -599,7 +675,7 @@ def permitted(rows, program):
     os.kill(service.serving(), signal.SIGKILL)
     rows.same(service.ask("put colour red", "get colour"), ["KEPT", "red"], "its answer by a process that is begun anew")
     answer = service.operate("drop 0")[-1]
-    rows.same(answer, f"no: it says `data 0 {b'KEPT'.hex()}0a` where clients got `data 0 {b'kept'.hex()}0a`", "the old version, whose answers the past has, leaves")
+    rows.same(answer, f"no: it says `data 0 {b'KEPT'.hex()}0a` where the service said `data 0 {b'kept'.hex()}0a`", "the old version, whose answers the past has, leaves")
     rows.same(service.end(), 0, "the status, with a rule")
 
 
@@ -878,7 +954,7 @@ def received(client):
 
 
 started = []
-TRIED = (joining, handing, falling_back, failing, reloading, permitted, told_metrics, killed_command, killed_all, resuming, left_copies, real_time, one_loop, nearly_all_clients, unheard_port, closed_console, unread_console, made_folder, full_transcript, cut_answers)
+TRIED = (joining, silent_client, handing, falling_back, breaking_and_leaving, letting_go, failing, reloading, permitted, told_metrics, killed_command, killed_all, resuming, left_copies, real_time, one_loop, nearly_all_clients, unheard_port, closed_console, unread_console, made_folder, full_transcript, cut_answers)
 
 
 def main():

@@ -133,7 +133,7 @@ class Operations:
         run.hand()
         await self.until_shown(run)
         if run.serving.obeyed() < len(run.serving.hands):
-            yield "no call was served yet: the leader gives up the lead with the next one"
+            yield "the leader gives up the lead with the next call that is served"
         else:
             yield f"hand {run.serving.transcript.hands[-1]}"
         for it in self.status():

@@ -31,7 +31,8 @@ class Process:
         self.process, self.lineup, self.transcript, self.is_behind = process, lineup, transcript, is_behind
         self.said, self.written = said, written
         self.versions, self.hands = lineup.versions, lineup.hands
-        self.begun = self.arrived = time.monotonic()
+        self.begun = time.monotonic()
+        self.served_since = None if is_behind else self.begun  # by it, or by the one that it replaced meanwhile
         self.fed = self.heard = self.heard_lines = 0  # bytes of what came, bytes and lines of what it said
         self.handed = 0  # so many of the operator's words it was told
         self.feeding = None
@@ -111,13 +112,14 @@ class Process:
 
     def arrive(self):
         """It has caught up."""
-        self.is_behind, self.arrived = False, time.monotonic()
+        now = time.monotonic()
+        self.is_behind, self.served_since = False, self.served_since or now
         self.transcript.arrive()
-        note(f"caught up after {self.arrived - self.begun:.3f} s, with {self.written.taken} lines taken")
+        note(f"caught up after {now - self.begun:.3f} s, with {self.written.taken} lines taken")
 
-    def has_served(self, seconds):
-        """Whether it has caught up, so many seconds ago at least."""
-        return not self.is_behind and time.monotonic() - self.arrived >= seconds
+    def served_for(self):
+        """The seconds in which clients have been served without a break: none while it catches up."""
+        return 0 if self.is_behind else time.monotonic() - self.served_since
 
     def obeyed(self):
         """How many words the leaders have obeyed."""

@@ -162,6 +162,7 @@ class Run:
         if status >= 0 or process.fault or not self.may_try():
             self.ended.set_result(status)
             return
+        self.tell_news(process)
         note(f"the command was ended by {signal.Signals(-status).name}, and is begun anew: {self.told.lines} lines came, {self.said.lines} were said")
         self.restarts += 1
         self.counts.restarts += 1
@@ -211,8 +212,12 @@ class Run:
             await asyncio.sleep(TICK)
 
     def switch(self):
-        """The process that joins serves from now on."""
-        old, self.serving, self.joining, self.is_joining = self.serving, self.joining, None, False
+        """The process that joins serves from now on. What the one before it has reported is said first, since it is ended."""
+        old = self.serving
+        old.written.take()
+        self.tell_news(old)
+        self.serving, self.joining, self.is_joining = self.joining, None, False
+        self.serving.served_since = old.served_since
         old.end("another one serves in its place")
         while self.serving.ahead:
             self.say(self.serving.ahead.popleft())
@@ -320,8 +325,8 @@ class Run:
         """Looks whether a client has been silent too long, and so has sent all. The time in which a process catches up doesn't count: the client may wait for an answer.
         Where clients may be silent, none may any more once no more come."""
         client = self.accepted[number]
-        left = client.heard + self.patience - client.loop.time()
-        if left <= 0 and client.heed and (self.idle or not self.takes) and self.serving.has_served(self.patience):
+        left = self.patience - min(client.loop.time() - client.heard, self.serving.served_for())
+        if left <= 0 and client.heed and (self.idle or not self.takes):
             self.end_client(number, client)
         else:
             self.silences[number] = client.loop.call_later(left if left > 0 else self.patience, self.end_silent, number)
@@ -436,4 +441,4 @@ class Parted(Exception):
     """A process says something else than was said."""
 
     def __init__(self, line, said):
-        super().__init__(f"it says `{line.decode().strip()}` where clients got `{said.decode().strip()}`")
+        super().__init__(f"it says `{line.decode().strip()}` where the service said `{said.decode().strip()}`")

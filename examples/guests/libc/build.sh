@@ -1,7 +1,7 @@
 #!/usr/bin/env bash
 # Fetches Debian's source of the C library musl and builds it by the stock compiler: for guests, over the calls of this folder (out/guest), the same with checks
 # (out/checked, docs/CHECKED.md), and as it is, for Linux (out/linux). All is put into out/: apt-get has its lists there too, so the machine's own stay as they are.
-# DEBIAN_MIRROR names another mirror than http://deb.debian.org/debian.
+# DEBIAN_MIRROR names another mirror than http://deb.debian.org/debian. A line says what is done next; what is there already isn't done again.
 # Status 3: a tool or the network is missing, or the mirror has another version of the package by now.
 set -eu
 cd "$(dirname "$0")"
@@ -31,6 +31,7 @@ apt() {
 
 # fetch: the package's files into out/apt, as the mirror's signed list has them.
 fetch() {
+    echo "fetching musl $musl from $mirror"
     mkdir -p out/apt/lists/partial out/apt/archives/partial
     cd out/apt
     echo "deb-src [signed-by=$keys] $mirror trixie main" >sources.list
@@ -54,6 +55,7 @@ install() {
 # calls: the parts of this folder, beside the guests' library.
 calls() {
     local part library objects=()
+    echo "building out/calls"
     mkdir -p out/calls
     for part in start.S start.c calls.c descriptors.c sockets.c memory.c processes.c signals.c asserts.c threads.S threads.c; do
         "$compiler" $machine -std=gnu11 -Os -Wall -Wextra -ffreestanding -fno-strict-aliasing -ffunction-sections -fdata-sections -nostdinc \
@@ -69,6 +71,7 @@ calls() {
 # library NAME COMPILER: unpacked and built, where it isn't yet.
 library() {
     [ -e "out/$1/lib/libc.a" ] && return
+    echo "building out/$1"
     rm -rf "out/$1_source"
     dpkg-source --no-check --no-copy -x "out/apt/musl_$musl.dsc" "out/$1_source" >>out/apt/log 2>&1 ||
         { echo "build.sh: musl can't be unpacked: out/apt/log" >&2; exit 1; }
