@@ -29,7 +29,9 @@ REFUSED = [
     *[["run", "--script", "s", option, "v"] for option in (
         "--ring=1", "--ring=1025", "--ring=", "--ring=x", "--ring=-2", "--ring=+2", "--ring=0x10", "--ring=4294967298",
         "--memory=131071", "--memory=126976", "--memory=131073", "--memory=16777217", "--memory=16781312", "--memory=18446744073709682688",
-        "--budget=0", "--budget=1000000001", "--calls=0", "--calls=131073", "--threads=0", "--threads=9", "--calls=3 ", "--calls= 3", "--rules")],
+        "--budget=0", "--budget=1000000001", "--hang=0", "--hang=1000000001", "--calls=0", "--calls=131073", "--threads=0", "--threads=9", "--calls=3 ", "--calls= 3", "--rules",
+        "--patience=1", "--clients")],
+    ["run", "--script", "s", "--hang=1", "--budget=1", "v"], ["run", "--script", "s", "--transcript", "s", "v"], ["run", "--transcript", "v"],
     ["asm"], ["asm", "a", "a"], ["asm", "--asm", "a"],
     ["record", "v"], ["record", "--script", "s"], ["record", "--json", "--script", "s", "v"], ["record", "--script", "s", *["v"] * 9],
     ["replay", "--script", "s", "q"], ["replay", "q", "v"], ["replay", "--script", "s", "q", "v", "v"], ["replay", "--script", "s", "--json", "q", "v"],
@@ -41,13 +43,18 @@ REFUSED = [
     ["rules"], ["rules", "r", "r"], ["rules", "--asm"], ["rules", "--asm", "--asm", "t"], ["rules", "--json", "r"],
 ]
 
+# The same of a live run, which is told on standard error.
+REFUSED_SERVICES = [["serve", *options, "v"] for options in (
+    ["--hang=0"], ["--hang=1000000001"], ["--hang=1", "--budget=1"], ["--calls=0"], ["--calls=500000001"], ["--transcript=s"], ["--json"],
+    ["--patience=1"], *[["--clients", f"--patience={it}"] for it in ("", "0", "3600001", "x", "1.5", "4294967297")], ["--clients", "--patience=1", "--patience=1"])]
+
 # Words that are accepted, each a run of one version that exits.
 ACCEPTED = [
     ["run", "v", "--script", "s"], ["run", "--script=s", "v"], ["run", "--script", "s", "--", "v"], ["run", "--json", "--script", "s", "v"],
     ["run", "--script", "s", "--ring", "2", "--memory=135168", "--budget", "0000000004", "--calls=1", "--threads", "1", "v"],
     ["run", "--script", "s", "--ring=1024", "--memory", "16777216", "--budget=1000000000", "--calls", "131072", "--threads=8", "v"],
     ["run", "--script", "s", *["v"] * 8],
-    ["run", "--script", "h", "v", "v"],
+    ["run", "--script", "h", "v", "v"], ["run", "--script", "s", "--hang=4", "v"], ["run", "--hang", "1000000000", "--transcript", "s", "v"],
 ]
 
 # The same of the other commands over versions, with what they write.
@@ -78,6 +85,13 @@ class Edges:
     def words(self):
         for words in REFUSED:
             self.answer("edge: words", words, 2, USAGE)
+        for words in REFUSED_SERVICES:
+            def refused(answer):
+                is_answer(answer, 2, b"")
+                if answer.errors != b"# " + USAGE:
+                    raise Wrong(f"standard error: {answer.errors[:80]!r}")
+
+            self.tally.add("edge: words", words, self.program.run(words), refused, tells=True)
         for words in (["run", "--script", "s", b"\xff"], [b"\xfe"], ["asm", b"\xc3("], ["rules", "--asm", b"a\x80"]):
             self.answer("edge: words", words, 2, USAGE)
         for words in ACCEPTED:
