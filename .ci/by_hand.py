@@ -5,7 +5,8 @@
     .ci/by_hand.py NAME ..     tries those of these crates, and says which show nothing, as .ci/edits.py does of the gate's
     .ci/by_hand.py --all       tries all of them
 
-They are tried by `rt ci NAME ..` in a copy of the repository, as its files stand, in which they are the crate's only edits. What refused each is written into
+They are tried by `rt must-fail NAME ..` in a copy of the repository, as its files stand, in which they are the crate's only edits; what earlier checks
+kept of the crates below is taken along. What refused each is written into
 .ci/edits.ledger, with sums of what it was tried on (.ci/ledger.py); the line of one that shows nothing is removed.
 Status: 0 where there is nothing to say, else 1.
 """
@@ -54,6 +55,18 @@ def content(path):
         return text.read()
 
 
+def libraries_of(names):
+    """The crates below these, by crates.txt."""
+    lines = [line.partition(":") for line in content("crates.txt").splitlines() if line.strip() and not line.startswith("#")]
+    uses = {head.split()[0]: rest.split() for head, _, rest in lines}
+    found, left = set(), list(names)
+    while left:
+        more = {it for it in uses.get(left.pop(), []) if it in uses} - found
+        found |= more
+        left += more
+    return found
+
+
 def copied(top, names):
     """Copies the repository's files into a folder, where these crates have the edits tried by hand alone, and the others none."""
     files = subprocess.run(["git", "ls-files", "-z", "--cached", "--others", "--exclude-standard"], check=True, capture_output=True, text=True).stdout
@@ -64,6 +77,10 @@ def copied(top, names):
         shutil.rmtree(f"{top}/crates/{crate}/{edits.GATE}", ignore_errors=True)
         if crate in names:
             os.rename(f"{top}/crates/{crate}/{edits.BY_HAND}", f"{top}/crates/{crate}/{edits.GATE}")
+    for crate in libraries_of(names):
+        kept = f"crates/{crate}/out/rlib"
+        if os.path.isdir(kept):
+            shutil.copytree(kept, f"{top}/{kept}")
 
 
 def tried(names):
@@ -73,7 +90,7 @@ def tried(names):
         known = edits.edits_of(f"{top}/crates")
         of = ledger.Sums(top)
         sums = {name: of.of(name, edits.GATE) for name in known}
-        run = subprocess.Popen(["rt", "ci", *names], cwd=top, stdout=subprocess.PIPE, stderr=subprocess.STDOUT, text=True, errors="replace")
+        run = subprocess.Popen(["rt", "must-fail", *names], cwd=top, stdout=subprocess.PIPE, stderr=subprocess.STDOUT, text=True, errors="replace")
         lines = []
         for line in run.stdout:
             print(line, end="", flush=True)
@@ -84,7 +101,7 @@ def tried(names):
     ledger.write(ledger.lines_for(lines, known, page, sums))
     yield from edits.faults_in(lines, known, page)
     if status:
-        yield f"rt ci {' '.join(names)}: status {status}"
+        yield f"rt must-fail {' '.join(names)}: status {status}"
 
 
 def main(words):

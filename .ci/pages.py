@@ -224,7 +224,7 @@ def options_helped(specs, commands):
     """What `usage` says of each option, command by command: (from, to, default)."""
     lines = {}
     for name, word, meaning in re.findall(r'(?m)^(\w+)_help = codes "  --(\w+)\b(.*)\\n"$', specs):
-        limits = re.search(r": (\d+) to (\d+)(?: less the length)?(?:, default (\d+))?$", meaning)
+        limits = re.search(r": (\d+) to (\d+)(?: less the length)?(?:, default (\d+)|; default none)?$", meaning)
         lines[name] = (word, tuple(it or "" for it in limits.groups()) if limits else ("", "", ""))
     options = {}
     for command, names in re.findall(r"(?m)^option_lines Names(\w+) =((?:.|\n )*)", specs):
