@@ -17,19 +17,25 @@ sleep : (tid : ℕ) → is_shaped (of_number tid 407) ≡ true
 unfolding is_shaped is_local syscall_of
 sleep tid = refl
 
+selects : (tid : ℕ) → is_shaped (of_number tid 413) ≡ true
+unfolding is_shaped is_local syscall_of
+selects tid = refl
+
 poll : (tid : ℕ) → is_shaped (of_number tid 414) ≡ true
 unfolding is_shaped is_local syscall_of
 poll tid = refl
 
-number_by : (tid nr : ℕ) (x y z : Bool) → (nr == 25) ≡ x → (nr == 407) ≡ y → (nr == 414) ≡ z → (x || y || z) ≡ true → is_shaped (of_number tid nr) ≡ true
-number_by tid nr true y z e f g h = let is : nr ≡ 25 = grind (arith, nat_tests) in subst (λ (n : ℕ). is_shaped (of_number tid n) ≡ true) (sym is) (fcntl tid)
-number_by tid nr false true z e f g h = let is : nr ≡ 407 = grind (arith, nat_tests) in subst (λ (n : ℕ). is_shaped (of_number tid n) ≡ true) (sym is) (sleep tid)
-number_by tid nr false false true e f g h = let is : nr ≡ 414 = grind (arith, nat_tests) in subst (λ (n : ℕ). is_shaped (of_number tid n) ≡ true) (sym is) (poll tid)
-number_by tid nr false false false e f g h = cc
+number_by : (tid nr : ℕ) (x y z w : Bool) → (nr == 25) ≡ x → (nr == 407) ≡ y → (nr == 413) ≡ z → (nr == 414) ≡ w → (x || y || z || w) ≡ true
+    → is_shaped (of_number tid nr) ≡ true
+number_by tid nr true y z w e f g h k = let is : nr ≡ 25 = grind (arith, nat_tests) in subst (λ (n : ℕ). is_shaped (of_number tid n) ≡ true) (sym is) (fcntl tid)
+number_by tid nr false true z w e f g h k = let is : nr ≡ 407 = grind (arith, nat_tests) in subst (λ (n : ℕ). is_shaped (of_number tid n) ≡ true) (sym is) (sleep tid)
+number_by tid nr false false true w e f g h k = let is : nr ≡ 413 = grind (arith, nat_tests) in subst (λ (n : ℕ). is_shaped (of_number tid n) ≡ true) (sym is) (selects tid)
+number_by tid nr false false false true e f g h k = let is : nr ≡ 414 = grind (arith, nat_tests) in subst (λ (n : ℕ). is_shaped (of_number tid n) ≡ true) (sym is) (poll tid)
+number_by tid nr false false false false e f g h k = cc
 
 bare-shaped : (c : Request) → is_later c.nr ≡ true → IsShaped (bare c)
 unfolding is_later
-bare-shaped c h = number_by c.tid c.nr (c.nr == 25) (c.nr == 407) (c.nr == 414) refl refl refl h
+bare-shaped c h = number_by c.tid c.nr (c.nr == 25) (c.nr == 407) (c.nr == 413) (c.nr == 414) refl refl refl refl h
 
 profile_by : (polls later : Bool) (c : Request) → is_later c.nr ≡ later → IsShaped c → IsShaped (cond (not polls && later) (bare c) c)
 profile_by true later c e h = h

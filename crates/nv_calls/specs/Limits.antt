@@ -21,6 +21,10 @@ MOST_ADDRESS = 16
 abbrev pub MOST_POLLED : ℕ
 MOST_POLLED = 408
 
+-- descriptors that a call selects among: FD_SETSIZE (select(2))
+abbrev pub MOST_SELECTED : ℕ
+MOST_SELECTED = 1024
+
 -- bytes of a time in seconds and nanoseconds, and of what a descriptor is polled for (poll(2))
 abbrev pub TIME_BYTES : ℕ
 TIME_BYTES = 16

@@ -1,7 +1,7 @@
 -- Linux's calls for RISC-V by their numbers (syscalls(2), asm-generic/unistd.h), and which arguments of each are values.
 use Rattle.std.specs.Prelude.{ℕ, ◌==◌, ◌||◌, Bool, true, false, List, [], ◌∷◌, if◌then◌else◌}
 use Rattle.nv_calls.specs.declared.numbers.Syscall.{Syscall}
-use Rattle.nv_calls.specs.declared.numbers.Syscall.TheVariants.{Getcwd, Dup, Dup3, Fcntl, Ioctl, Unlinkat, Openat, Close, Pipe2, Llseek, Read, Write, Readv, Writev, Exit, ExitGroup, Uname, Getpid, Getppid, Getuid, Geteuid, Getgid, Getegid, Socket, Bind, Listen, Accept, Clone, Accept4, Getrandom, ClockGettime64, ClockNanosleep, Ppoll, Unknown}
+use Rattle.nv_calls.specs.declared.numbers.Syscall.TheVariants.{Getcwd, Dup, Dup3, Fcntl, Ioctl, Unlinkat, Openat, Close, Pipe2, Llseek, Read, Write, Readv, Writev, Exit, ExitGroup, Uname, Getpid, Getppid, Getuid, Geteuid, Getgid, Getegid, Socket, Bind, Listen, Accept, Clone, Accept4, Getrandom, ClockGettime64, ClockNanosleep, Pselect6, Ppoll, Unknown}
 use Rattle.nv_calls.specs.declared.numbers.Slot.{Slot}
 use Rattle.nv_calls.specs.declared.numbers.Slot.TheVariants.{Value, Address, Unused}
 
@@ -27,7 +27,8 @@ table =
     row 17 Getcwd ∷ row 23 Dup ∷ row 24 Dup3 ∷ row 25 Fcntl ∷ row 29 Ioctl ∷ row 35 Unlinkat ∷ row 56 Openat ∷ row 57 Close ∷ row 59 Pipe2
     ∷ row 62 Llseek ∷ row 63 Read ∷ row 64 Write ∷ row 65 Readv ∷ row 66 Writev ∷ row EXIT Exit ∷ row EXIT_GROUP ExitGroup ∷ row 160 Uname
     ∷ row 172 Getpid ∷ row 173 Getppid ∷ row 174 Getuid ∷ row 175 Geteuid ∷ row 176 Getgid ∷ row 177 Getegid ∷ row 198 Socket ∷ row 200 Bind
-    ∷ row 201 Listen ∷ row 202 Accept ∷ row CLONE Clone ∷ row 242 Accept4 ∷ row 278 Getrandom ∷ row 403 ClockGettime64 ∷ row 407 ClockNanosleep ∷ row 414 Ppoll ∷ []
+    ∷ row 201 Listen ∷ row 202 Accept ∷ row CLONE Clone ∷ row 242 Accept4 ∷ row 278 Getrandom ∷ row 403 ClockGettime64 ∷ row 407 ClockNanosleep
+    ∷ row 413 Pselect6 ∷ row 414 Ppoll ∷ []
 
 abbrev pub syscall_in : List Row → ℕ → Syscall
 syscall_in [] nr = Unknown
@@ -65,6 +66,7 @@ slots_by Clone = Value ∷ Address ∷ Unused ∷ Address ∷ Unused ∷ Unused 
 slots_by Getrandom = Address ∷ Value ∷ Value ∷ Unused ∷ Unused ∷ Unused ∷ []
 slots_by ClockGettime64 = Value ∷ Address ∷ Unused ∷ Unused ∷ Unused ∷ Unused ∷ []
 slots_by ClockNanosleep = Value ∷ Value ∷ Address ∷ Unused ∷ Unused ∷ Unused ∷ []
+slots_by Pselect6 = Value ∷ Address ∷ Address ∷ Address ∷ Address ∷ Unused ∷ []
 slots_by Ppoll = Address ∷ Value ∷ Address ∷ Unused ∷ Unused ∷ Unused ∷ []
 slots_by _ = Unused ∷ Unused ∷ Unused ∷ Unused ∷ Unused ∷ Unused ∷ []
 
@@ -88,6 +90,7 @@ has_range Bind = true
 has_range Getrandom = true
 has_range ClockGettime64 = true
 has_range ClockNanosleep = true
+has_range Pselect6 = true
 has_range Ppoll = true
 has_range _ = false
 
@@ -99,6 +102,7 @@ hands_in Write = true
 hands_in Writev = true
 hands_in Bind = true
 hands_in ClockNanosleep = true
+hands_in Pselect6 = true
 hands_in Ppoll = true
 hands_in _ = false
 
@@ -110,6 +114,7 @@ is_of_threads nr = (nr == CLONE) || (nr == EXIT) || (nr == EXIT_GROUP)
 unfoldable pub is_local : ℕ → Bool
 is_local nr = (nr == 96) || (nr == 124) || (nr == 178) || (nr == 214) || (nr == 422)
 
--- fcntl64 (25), clock_nanosleep_time64 (407) and ppoll_time64 (414) are calls of runs over scripts of the fifth form alone: in all others they aren't in the table
+-- fcntl64 (25), clock_nanosleep_time64 (407), pselect6_time64 (413) and ppoll_time64 (414) are calls of runs over scripts of the fifth form alone: in all others they
+-- aren't in the table
 unfoldable pub is_later : ℕ → Bool
-is_later nr = (nr == 25) || (nr == 407) || (nr == 414)
+is_later nr = (nr == 25) || (nr == 407) || (nr == 413) || (nr == 414)

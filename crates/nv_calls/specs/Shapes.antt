@@ -2,11 +2,11 @@
 use Rattle.std.specs.Prelude.{◌≡◌, ℕ, ◌+◌, ◌*◌, Bool, true, ◌==◌, ◌&&◌, ◌||◌, not, nat_le, List, [], ◌∷◌, length, slice_index, min, if◌then◌else◌}
 use Rattle.std.specs.List.{list_all}
 use Rattle.nv_calls.specs.declared.numbers.Syscall.{Syscall}
-use Rattle.nv_calls.specs.declared.numbers.Syscall.TheVariants.{Unlinkat, Openat, Write, Readv, Writev, Bind, ClockNanosleep, Ppoll}
+use Rattle.nv_calls.specs.declared.numbers.Syscall.TheVariants.{Unlinkat, Openat, Write, Readv, Writev, Bind, ClockNanosleep, Pselect6, Ppoll}
 use Rattle.nv_calls.specs.declared.numbers.Slot.{Slot}
 use Rattle.nv_calls.specs.declared.numbers.Slot.TheVariants.{Value, Address, Unused}
 use Rattle.nv_calls.specs.Calls.{Request}
-use Rattle.nv_calls.specs.Answers.{polled_count}
+use Rattle.nv_calls.specs.Answers.{polled_count, sets_bytes}
 use Rattle.nv_calls.specs.Limits.{MOST_BYTES, MOST_VECTORS, MOST_PATH, MOST_ADDRESS, TIME_BYTES, POLLED_BYTES}
 use Rattle.nv_calls.specs.Numbers.{syscall_of, slots_by, has_range, is_local}
 
@@ -38,9 +38,9 @@ is_capacity _ c = true
 abbrev pub is_path : List ℕ → Bool
 is_path bytes = nat_le (length bytes) MOST_PATH && list_all (λ b. not (b == 0)) bytes
 
--- what so many descriptors are polled for, and after it a time, where one is given
-abbrev pub is_polled : ℕ → List ℕ → Bool
-is_polled count bytes = (length bytes == POLLED_BYTES * polled_count count) || (length bytes == POLLED_BYTES * polled_count count + TIME_BYTES)
+-- so many bytes, and after them a time, where one is given
+abbrev pub is_timed : ℕ → List ℕ → Bool
+is_timed n bytes = (length bytes == n) || (length bytes == n + TIME_BYTES)
 
 -- the bytes that a call on the guest's own memory hands in
 abbrev pub is_payload : Syscall → Request → Bool
@@ -49,8 +49,9 @@ is_payload Openat c = is_path c.payload
 is_payload Write c = length c.payload == min (slice_index c.args 2) MOST_BYTES
 is_payload Writev c = nat_le (length c.payload) (most_of_vectors c)
 is_payload Bind c = length c.payload == min (slice_index c.args 2) MOST_ADDRESS
-is_payload ClockNanosleep c = is_polled 0 c.payload
-is_payload Ppoll c = is_polled (slice_index c.args 1) c.payload
+is_payload ClockNanosleep c = is_timed 0 c.payload
+is_payload Pselect6 c = is_timed (sets_bytes c.args) c.payload
+is_payload Ppoll c = is_timed (POLLED_BYTES * polled_count (slice_index c.args 1)) c.payload
 is_payload _ c = length c.payload == 0
 
 abbrev pub is_shaped_as : Syscall → Request → Bool

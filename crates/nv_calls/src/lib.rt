@@ -13,12 +13,12 @@ mod numbers;
 mod shapes;
 mod threads;
 
-pub use answers::polled_count;
+pub use answers::{polled_count, selected_count, set_bytes, sets_bytes};
 pub use bytes::Bytes;
 pub use calls::{Call, Event, Reply, same};
 pub use limits::{
     EVENTS_BYTES, FIRST_THREAD, MOST_ADDRESS, MOST_BYTES, MOST_EVENTS, MOST_PATH, MOST_POLLED,
-    MOST_THREADS, MOST_VECTORS, POLLED_BYTES, TIME_BYTES,
+    MOST_SELECTED, MOST_THREADS, MOST_VECTORS, POLLED_BYTES, TIME_BYTES,
 };
 pub use numbers::{CLONE, EXIT, EXIT_GROUP, Slot, Syscall, is_later, is_local, slots};
 pub use shapes::shaped;

@@ -16,6 +16,9 @@ pub const MOST_ADDRESS: u32 = 16;
 /// RLIMIT_NOFILE).
 pub const MOST_POLLED: u32 = 408;
 
+/// How many descriptors a call selects among at most: FD_SETSIZE (select(2)).
+pub const MOST_SELECTED: u32 = 1024;
+
 /// The bytes of a time in seconds and nanoseconds, of what a descriptor is polled for, and of what is told of one (poll(2)).
 pub const TIME_BYTES: u32 = 16;
 

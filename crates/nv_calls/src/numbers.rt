@@ -46,6 +46,7 @@ pub enum Syscall {
     Getrandom,
     ClockGettime64,
     ClockNanosleep,
+    Pselect6,
     Ppoll,
     /// A number that isn't built.
     Unknown,
@@ -98,6 +99,7 @@ impl Syscall {
             278 => Syscall::Getrandom,
             403 => Syscall::ClockGettime64,
             407 => Syscall::ClockNanosleep,
+            413 => Syscall::Pselect6,
             414 => Syscall::Ppoll,
             _ => Syscall::Unknown,
         }
@@ -121,6 +123,7 @@ impl Syscall {
             Syscall::Getrandom => [a, v, v, u, u, u],
             Syscall::ClockGettime64 => [v, a, u, u, u, u],
             Syscall::ClockNanosleep => [v, v, a, u, u, u],
+            Syscall::Pselect6 => [v, a, a, a, a, u],
             Syscall::Ppoll => [a, v, a, u, u, u],
             Syscall::Unlinkat
             | Syscall::Openat
@@ -154,6 +157,7 @@ impl Syscall {
             | Syscall::Getrandom
             | Syscall::ClockGettime64
             | Syscall::ClockNanosleep
+            | Syscall::Pselect6
             | Syscall::Ppoll => true,
             _ => false,
         }
@@ -180,5 +184,5 @@ pub fn is_local(nr: u32) -> bool
 pub fn is_later(nr: u32) -> bool
     ensures { result ≡ is_later nr }
 {
-    nr == 25 || nr == 407 || nr == 414
+    nr == 25 || nr == 407 || nr == 413 || nr == 414
 }

@@ -2,9 +2,9 @@
 ghost use Rattle.std.specs.Prelude.{◌≡◌, ◌==◌, not, nat_le};
 ghost use Rattle.std.specs.List.{list_all};
 ghost use Rattle.nv_calls.specs.Calls.{request};
-ghost use Rattle.nv_calls.specs.Shapes.{is_plain, are_plain, kept_slots, most_of_vectors, is_capacity, is_path, is_polled, is_payload, is_shaped_as, is_shaped};
+ghost use Rattle.nv_calls.specs.Shapes.{is_plain, are_plain, kept_slots, most_of_vectors, is_capacity, is_path, is_timed, is_payload, is_shaped_as, is_shaped};
 
-use crate::answers::polled_count;
+use crate::answers::{polled_count, sets_bytes};
 use crate::calls::Call;
 use crate::limits::{MOST_ADDRESS, MOST_BYTES, MOST_PATH, MOST_VECTORS, POLLED_BYTES, TIME_BYTES};
 use crate::numbers::{Slot, Syscall, is_local};
@@ -93,12 +93,12 @@ fn is_path(bytes: &[u8]) -> bool
     bytes.len() <= MOST_PATH && has_no_zero(bytes)
 }
 
-// What descriptors are polled for, with or without a time.
-fn is_polled(bytes: &[u8], count: u32) -> bool
-    ensures { result ≡ is_polled count bytes.now }
+// Whether these are so many bytes, with or without a time after them.
+fn is_timed(bytes: &[u8], count: u32) -> bool
+    ensures { result ≡ is_timed count bytes.now }
 {
-    let polled = (POLLED_BYTES * polled_count(count)) as usize;
-    bytes.len() == polled || bytes.len() == polled + TIME_BYTES as usize
+    let count = count as usize;
+    bytes.len() == count || bytes.len() == count + TIME_BYTES as usize
 }
 
 fn is_payload(syscall: Syscall, call: &Call) -> bool
@@ -110,8 +110,9 @@ fn is_payload(syscall: Syscall, call: &Call) -> bool
         Syscall::Write => bytes.len() == call.args[2].min(MOST_BYTES) as usize,
         Syscall::Writev => bytes.len() <= most_of_vectors(call) as usize,
         Syscall::Bind => bytes.len() == call.args[2].min(MOST_ADDRESS) as usize,
-        Syscall::ClockNanosleep => is_polled(bytes, 0),
-        Syscall::Ppoll => is_polled(bytes, call.args[1]),
+        Syscall::ClockNanosleep => is_timed(bytes, 0),
+        Syscall::Pselect6 => is_timed(bytes, sets_bytes(&call.args)),
+        Syscall::Ppoll => is_timed(bytes, POLLED_BYTES * polled_count(call.args[1])),
         _ => bytes.len() == 0,
     }
 }
