@@ -101,7 +101,7 @@ other_at nr p q r =
     (apart (nr == 93) _ _ q (apart (nr == 94) _ _ p
     (o 160 _ _ refl (o 172 _ _ refl (o 173 _ _ refl (o 174 _ _ refl (o 175 _ _ refl (o 176 _ _ refl (o 177 _ _ refl
     (o 198 _ _ refl (o 200 _ _ refl (o 201 _ _ refl (o 202 _ _ refl
-    (apart (nr == 220) _ _ r (o 242 _ _ refl (o 278 _ _ refl (o 403 _ _ refl (o 407 _ _ refl (o 414 _ _ refl refl))))))))))))))))))))))))))))))))
+    (apart (nr == 220) _ _ r (o 242 _ _ refl (o 278 _ _ refl (o 403 _ _ refl (o 407 _ _ refl (o 413 _ _ refl (o 414 _ _ refl refl)))))))))))))))))))))))))))))))))
 
 -- the threads that live after a call, as the log has it
 abbrev pub live_by : ℕ → ℕ → List ℕ → ℤ → List ℕ

@@ -7,10 +7,10 @@ use Rattle.nv_calls.specs.Calls.{Request}
 use Rattle.nv_calls.specs.Constants.{result_alone, directory, names}
 use Rattle.nv_calls.specs.Errors.{ERANGE}
 use Rattle.nv_kernel.specs.Serving.{Served}
-use Rattle.nv_calls.specs.declared.numbers.Syscall.TheVariants.{Unlinkat, Openat, Write, Writev, Bind, ClockNanosleep, Ppoll}
+use Rattle.nv_calls.specs.declared.numbers.Syscall.TheVariants.{Unlinkat, Openat, Write, Writev, Bind, ClockNanosleep, Pselect6, Ppoll}
 use Rattle.nv_calls.specs.Numbers.{syscall_of, hands_in}
 use Rattle.nv_calls.specs.Shapes.{IsShaped}
-use Rattle.nv_calls.proofs.ShapeLaws.{polled_count-few, shaped-few, shaped-empty, shaped-polled}
+use Rattle.nv_calls.proofs.ShapeLaws.{polled_count-few, set_bytes-few, shaped-few, shaped-empty, shaped-selected, shaped-polled}
 use Rattle.nv_calls.specs.Answers.{most_out_by}
 use Rattle.nv_kernel.specs.Reserved.{most_out}
 
@@ -32,19 +32,24 @@ pub names_are : length names ≡ 390
 unfolding names
 names_are = refl
 
-together_as : (k : Syscall) (c : Request) → (hands_in k ≡ false → length c.payload ≡ 0) → (k ≡ Ppoll → length c.payload ≤ 3280) → length c.payload ≤ 4096 → length c.payload + most_out_by k c.args ≤ 4096
-together_as Unlinkat c h q p = omega arith
-together_as Openat c h q p = omega arith
-together_as Write c h q p = omega arith
-together_as Writev c h q p = omega arith
-together_as Bind c h q p = omega arith
-together_as ClockNanosleep c h q p = omega arith
-together_as Ppoll c h q p =
+together_as : (k : Syscall) (c : Request) → (hands_in k ≡ false → length c.payload ≡ 0) → (k ≡ Pselect6 → length c.payload ≤ 400) → (k ≡ Ppoll → length c.payload ≤ 3280)
+    → length c.payload ≤ 4096 → length c.payload + most_out_by k c.args ≤ 4096
+together_as Unlinkat c h r q p = omega arith
+together_as Openat c h r q p = omega arith
+together_as Write c h r q p = omega arith
+together_as Writev c h r q p = omega arith
+together_as Bind c h r q p = omega arith
+together_as ClockNanosleep c h r q p = omega arith
+together_as Pselect6 c h r q p =
+    let few = set_bytes-few (slice_index c.args 0) in
+    let bytes = r refl in
+    omega (arith, few, bytes)
+together_as Ppoll c h r q p =
     let few = polled_count-few (slice_index c.args 1) in
     let bytes = q refl in
     omega (arith, few, bytes)
-together_as _ c h q p = let z = h refl in omega arith
+together_as _ c h r q p = let z = h refl in omega arith
 
 -- what a call hands in and out together
 pub together_few : (c : Request) → IsShaped c → length c.payload + most_out c ≤ 4096
-together_few c h = together_as (syscall_of c.nr) c (shaped-empty c h) (shaped-polled c h) (shaped-few c h)
+together_few c h = together_as (syscall_of c.nr) c (shaped-empty c h) (shaped-selected c h) (shaped-polled c h) (shaped-few c h)

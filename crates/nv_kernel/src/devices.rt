@@ -201,6 +201,7 @@ impl Devices {
             | Syscall::Accept4
             | Syscall::Fcntl
             | Syscall::ClockNanosleep
+            | Syscall::Pselect6
             | Syscall::Ppoll
             | Syscall::Unknown => ENOSYS,
         }
