@@ -1,13 +1,13 @@
 -- A call that the guest asks for has the form of a call.
-use Rattle.std.proofs.Common.{◌≡◌, ℕ, zero, suc, ◌+◌, ◌-◌, ◌≤◌, Bool, true, false, not, ◌||◌, ◌==◌, nat_le, min, cond, List, [], ◌∷◌, ◌++◌, length, Option, Some, None, option_map, ◌⊎◌, inl, inr, ◌*◌, refl, ap, ◌∙◌, arith, length-append}
+use Rattle.std.proofs.Common.{◌≡◌, ℕ, zero, suc, ◌+◌, ◌-◌, ◌≤◌, Bool, true, false, not, ◌||◌, ◌==◌, nat_le, min, cond, List, [], ◌∷◌, ◌++◌, length, replicate, Option, Some, None, option_map, ◌⊎◌, inl, inr, ◌*◌, refl, ap, subst, ◌∙◌, arith, length-append}
 use Rattle.std.specs.Prelude.{IfSome}
 use Rattle.std.specs.List.{list_all}
 use Rattle.std.proofs.lemmas.Bool.Decides.{nat_tests}
 use Rattle.nv_calls.specs.declared.numbers.Syscall.{Syscall}
-use Rattle.nv_calls.specs.declared.numbers.Syscall.TheVariants.{Getcwd, Unlinkat, Openat, Pipe2, Llseek, Read as ReadCall, Write as WriteCall, Readv, Writev, Bind, Uname, Getrandom, ClockGettime64, ClockNanosleep, Ppoll}
+use Rattle.nv_calls.specs.declared.numbers.Syscall.TheVariants.{Getcwd, Unlinkat, Openat, Pipe2, Llseek, Read as ReadCall, Write as WriteCall, Readv, Writev, Bind, Uname, Getrandom, ClockGettime64, ClockNanosleep, Pselect6, Ppoll}
 use Rattle.nv_calls.specs.Numbers.{syscall_of, is_local}
 use Rattle.nv_calls.specs.Answers.{polled_count}
-use Rattle.nv_calls.specs.Shapes.{is_path, is_polled, is_shaped_as, is_shaped, IsShaped}
+use Rattle.nv_calls.specs.Shapes.{is_path, is_timed, is_shaped_as, is_shaped, IsShaped}
 use Rattle.nv_memory.specs.declared.region.Right.{Right}
 use Rattle.nv_memory.specs.declared.region.Right.TheVariants.{Read, Write}
 use Rattle.nv_memory.specs.Bytes.{bytes_at}
@@ -17,7 +17,7 @@ use Rattle.nv_machine.specs.Guest.{Machine}
 use Rattle.nv_guest.specs.declared.vectors.Part.{Part}
 use Rattle.nv_guest.specs.Paths.{byte_at, path_with, path_at}
 use Rattle.nv_guest.specs.Vectors.{vector_at, prefix_of, usable_by, usable_at, parts_with, parts_at, capacity, joined_parts}
-use Rattle.nv_guest.specs.Calls.{argument, call_number, out_of, vector_count, readable, timeout_in, both, polled_bytes, written_bytes, address_in, path_in, vectors_in, capacity_in, Handed, refused, with_payload, with_capacity, with_out, handed, call_by, call_at}
+use Rattle.nv_guest.specs.Calls.{argument, call_number, out_of, vector_count, readable, timeout_in, both, set_size, set_in, sets_in, selected_bytes, polled_bytes, written_bytes, address_in, path_in, vectors_in, capacity_in, Handed, refused, with_payload, with_capacity, with_out, handed, call_by, call_at}
 
 pub length-bytes_at : (bytes : List ℕ) (a n : ℕ) → length (bytes_at bytes a n) ≡ n
 length-bytes_at bytes a zero = refl
@@ -134,40 +134,71 @@ read-long : (bytes : List ℕ) (a n : ℕ) (may : Bool) → IfSome (cond may (So
 read-long bytes a n true = length-bytes_at bytes a n
 read-long bytes a n false = tt
 
-timeout-long : (m : Machine) → IfSome (timeout_in m) (λ xs. (length xs ≡ 0) ⊎ (length xs ≡ 16))
-timeout-long m = given (argument m 2 == 0)
+timeout-long : (n : ℕ) (m : Machine) → IfSome (timeout_in n m) (λ xs. (length xs ≡ 0) ⊎ (length xs ≡ 16))
+timeout-long n m = given (argument m n == 0)
   where
     read : (o : Option (List ℕ)) → IfSome o (λ xs. length xs ≡ 16) → IfSome o (λ xs. (length xs ≡ 0) ⊎ (length xs ≡ 16))
     read None h = tt
     read (Some xs) h = inr h
 
-    given : (none : Bool) → IfSome (cond none (Some []) (readable m.memory (argument m 2) 16)) (λ xs. (length xs ≡ 0) ⊎ (length xs ≡ 16))
+    given : (none : Bool) → IfSome (cond none (Some []) (readable m.memory (argument m n) 16)) (λ xs. (length xs ≡ 0) ⊎ (length xs ≡ 16))
     given true = inl refl
-    given false = read (readable m.memory (argument m 2) 16) (read-long m.memory.bytes (argument m 2) 16 (holds m.memory.regions (argument m 2) 16 Read))
+    given false = read (readable m.memory (argument m n) 16) (read-long m.memory.bytes (argument m n) 16 (holds m.memory.regions (argument m n) 16 Read))
 
-long-enough : (n k : ℕ) → (n ≡ 8 * k) ⊎ (n ≡ 8 * k + 16) → ((n == 8 * k) || (n == 8 * k + 16)) ≡ true
-long-enough n k (inl h) = let is : (n == 8 * k) ≡ true = grind (arith, nat_tests) in rw is refl
-long-enough n k (inr h) = let is : (n == 8 * k + 16) ≡ true = grind (arith, nat_tests) in rw is (last (n == 8 * k))
+long-enough : (n k : ℕ) → (n ≡ k) ⊎ (n ≡ k + 16) → ((n == k) || (n == k + 16)) ≡ true
+long-enough n k (inl h) = let is : (n == k) ≡ true = grind (arith, nat_tests) in rw is refl
+long-enough n k (inr h) = let is : (n == k + 16) ≡ true = grind (arith, nat_tests) in rw is (last (n == k))
   where
     last : (b : Bool) → (b || true) ≡ true
     last true = refl
     last false = refl
 
-joined-long : (k : ℕ) (xs ys : List ℕ) → length xs ≡ 8 * k → (length ys ≡ 0) ⊎ (length ys ≡ 16) → (length (xs ++ ys) ≡ 8 * k) ⊎ (length (xs ++ ys) ≡ 8 * k + 16)
+joined-long : (k : ℕ) (xs ys : List ℕ) → length xs ≡ k → (length ys ≡ 0) ⊎ (length ys ≡ 16) → (length (xs ++ ys) ≡ k) ⊎ (length (xs ++ ys) ≡ k + 16)
 joined-long k xs ys h (inl none) = let n = length-append xs ys in inl (omega (arith, n, h, none))
 joined-long k xs ys h (inr some) = let n = length-append xs ys in inr (omega (arith, n, h, some))
 
-both-fit : (count : ℕ) (first second : Option (List ℕ)) → IfSome first (λ xs. length xs ≡ 8 * polled_count count) → IfSome second (λ ys. (length ys ≡ 0) ⊎ (length ys ≡ 16))
-    → IfSome (both first second) (λ xs. is_polled count xs ≡ true)
-both-fit count None second h g = tt
-both-fit count (Some xs) None h g = tt
-both-fit count (Some xs) (Some ys) h g = long-enough (length (xs ++ ys)) (polled_count count) (joined-long (polled_count count) xs ys h g)
+both-fit : (k : ℕ) (first second : Option (List ℕ)) → IfSome first (λ xs. length xs ≡ k) → IfSome second (λ ys. (length ys ≡ 0) ⊎ (length ys ≡ 16))
+    → IfSome (both first second) (λ xs. is_timed k xs ≡ true)
+both-fit k None second h g = tt
+both-fit k (Some xs) None h g = tt
+both-fit k (Some xs) (Some ys) h g = long-enough (length (xs ++ ys)) k (joined-long k xs ys h g)
 
-polled-fit : (m : Machine) → IfSome (polled_bytes m) (λ xs. is_polled (argument m 1) xs ≡ true)
+polled-fit : (m : Machine) → IfSome (polled_bytes m) (λ xs. is_timed (8 * polled_count (argument m 1)) xs ≡ true)
 polled-fit m =
     let n : ℕ = 8 * polled_count (argument m 1) in
-    both-fit (argument m 1) (readable m.memory (argument m 0) n) (timeout_in m)
-    (read-long m.memory.bytes (argument m 0) n (holds m.memory.regions (argument m 0) n Read)) (timeout-long m)
+    both-fit n (readable m.memory (argument m 0) n) (timeout_in 2 m)
+    (read-long m.memory.bytes (argument m 0) n (holds m.memory.regions (argument m 0) n Read)) (timeout-long 2 m)
+
+-- ---- what is selected
+
+zeros-long : (n : ℕ) → length {A = ℕ} (replicate n 0) ≡ n
+zeros-long zero = refl
+zeros-long (suc n) = ap suc (zeros-long n)
+
+set-long : (n : ℕ) (m : Machine) → IfSome (set_in n m) (λ xs. length xs ≡ set_size m)
+set-long n m = given (argument m n == 0) (holds m.memory.regions (argument m n) (set_size m) Write)
+  where
+    given : (none may : Bool)
+        → IfSome (cond none (Some (replicate (set_size m) 0)) (cond may (readable m.memory (argument m n) (set_size m)) None)) (λ xs. length xs ≡ set_size m)
+    given true may = zeros-long (set_size m)
+    given false true = read-long m.memory.bytes (argument m n) (set_size m) (holds m.memory.regions (argument m n) (set_size m) Read)
+    given false false = tt
+
+both-long : (j k : ℕ) (first second : Option (List ℕ)) → IfSome first (λ xs. length xs ≡ j) → IfSome second (λ ys. length ys ≡ k)
+    → IfSome (both first second) (λ xs. length xs ≡ j + k)
+both-long j k None second h g = tt
+both-long j k (Some xs) None h g = tt
+both-long j k (Some xs) (Some ys) h g = let n = length-append xs ys in omega (arith, n, h, g)
+
+sets-long : (m : Machine) → IfSome (sets_in m) (λ xs. length xs ≡ 3 * set_size m)
+sets-long m =
+    let n : ℕ = set_size m in
+    let three : n + n + n ≡ 3 * n = omega arith in
+    subst (λ (k : ℕ). IfSome (sets_in m) (λ xs. length xs ≡ k)) three
+    (both-long (n + n) n (both (set_in 1 m) (set_in 2 m)) (set_in 3 m) (both-long n n (set_in 1 m) (set_in 2 m) (set-long 1 m) (set-long 2 m)) (set-long 3 m))
+
+selected-fit : (m : Machine) → IfSome (selected_bytes m) (λ xs. is_timed (3 * set_size m) xs ≡ true)
+selected-fit m = both-fit (3 * set_size m) (sets_in m) (timeout_in 4 m) (sets-long m) (timeout-long 4 m)
 
 by_right : (P : Handed → Type 0) (may : Bool) (h : Handed) → P h → P refused → P (cond may h refused)
 by_right P true h good bad = good
@@ -197,8 +228,9 @@ shaped-by Getrandom m tid = by_out (Fit Getrandom m tid) m.memory (out_of Getran
 shaped-by ClockGettime64 m tid = by_out (Fit ClockGettime64 m tid) m.memory (out_of ClockGettime64 m) refl refl
 shaped-by ClockNanosleep m tid = by_payload (Fit ClockNanosleep m tid) (λ xs. length xs ≡ 16) (readable m.memory (argument m 2) 16)
     (read-long m.memory.bytes (argument m 2) 16 (holds m.memory.regions (argument m 2) 16 Read)) refl (λ bytes h. long-enough (length bytes) 0 (inr h))
+shaped-by Pselect6 m tid = by_payload (Fit Pselect6 m tid) (λ xs. is_timed (3 * set_size m) xs ≡ true) (selected_bytes m) (selected-fit m) refl (λ bytes h. h)
 shaped-by Ppoll m tid = by_right (Fit Ppoll m tid) (holds m.memory.regions (argument m 0) (8 * polled_count (argument m 1)) Write) (with_payload (polled_bytes m))
-    (by_payload (Fit Ppoll m tid) (λ xs. is_polled (argument m 1) xs ≡ true) (polled_bytes m) (polled-fit m) refl (λ bytes h. h)) refl
+    (by_payload (Fit Ppoll m tid) (λ xs. is_timed (8 * polled_count (argument m 1)) xs ≡ true) (polled_bytes m) (polled-fit m) refl (λ bytes h. h)) refl
 shaped-by _ m tid = refl
 
 pub call_is_shaped : (m : Machine) (tid : ℕ) → is_local (call_number m) ≡ false → IsShaped (call_at m tid)

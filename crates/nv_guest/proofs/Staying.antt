@@ -1,5 +1,5 @@
 -- What a guest does leaves the regions of its memory as they are, and as many bytes.
-use Rattle.std.proofs.Common.{◌≡◌, ◌∙◌, sym, ap, subst, refl, ℕ, zero, suc, ◌+◌, ◌-◌, ◌^◌, Bool, true, false, cond, ◌&&◌, nat_lt, List, [], ◌∷◌, length, take, drop, ℤ, Option, Some, None, Result, Ok, Err}
+use Rattle.std.proofs.Common.{◌≡◌, ◌∙◌, sym, ap, subst, refl, ℕ, zero, suc, ◌+◌, ◌-◌, ◌^◌, Bool, true, false, cond, ◌&&◌, ◌==◌, nat_lt, List, [], ◌∷◌, length, take, drop, ℤ, Option, Some, None, Result, Ok, Err}
 use Rattle.nv_isa.specs.declared.op.Op.{Op}
 use Rattle.nv_isa.specs.declared.op.Op.TheVariants.{Sb, Sh, Sw, StoreConditional, AmoSwap, AmoAdd, AmoXor, AmoAnd, AmoOr, AmoMin, AmoMax, AmoMinu, AmoMaxu}
 use Rattle.nv_isa.specs.declared.op.Insn.{Insn}
@@ -17,13 +17,13 @@ use Rattle.nv_machine.specs.declared.outcome.FaultKind.TheVariants as kinds
 use Rattle.nv_machine.specs.Effects.{sum, combined}
 use Rattle.nv_machine.specs.Guest.{Machine, StepResult, fault, stores, is_word_at, is_reserved, store_conditional, word_at, combines, effect, executed, fetched, guest_step, register, immediate_word, width_of}
 use Rattle.nv_calls.specs.declared.numbers.Syscall.{Syscall}
-use Rattle.nv_calls.specs.declared.numbers.Syscall.TheVariants.{Readv, Ppoll}
+use Rattle.nv_calls.specs.declared.numbers.Syscall.TheVariants.{Readv, Pselect6, Ppoll}
 use Rattle.nv_calls.specs.Answers.{polled_count}
 use Rattle.nv_calls.specs.Numbers.{syscall_of}
 use Rattle.nv_guest.specs.declared.heap.Heap.{Heap}
 use Rattle.nv_guest.specs.declared.vectors.Part.{Part}
-use Rattle.nv_guest.specs.Answers.{with_byte, with_each_byte, scattered, targets_at, with_events}
-use Rattle.nv_guest.specs.Calls.{call_number, argument, vector_count, out_of, stored_at, memory_after, with_answer}
+use Rattle.nv_guest.specs.Answers.{with_byte, with_each_byte, scattered, targets_at, with_sets, with_events}
+use Rattle.nv_guest.specs.Calls.{call_number, argument, vector_count, out_of, set_size, set_places, stored_at, memory_after, with_answer}
 use Rattle.nv_guest.specs.Threads.{Threaded, MachineRan, tids, run, unless_stopped, last_region}
 use Rattle.nv_guest.specs.inner.Heap.{HasHeap, IsClear}
 use Rattle.nv_guest.specs.Guest.{machine_with}
@@ -88,8 +88,16 @@ events_stay a list (suc count) bytes =
     let b = with_each_byte a (list + 6) (take 2 bytes) in
     then_stays a b (with_events b (list + 8) count (drop 2 bytes)) (bytes_stay a (list + 6) (take 2 bytes)) (events_stay b (list + 8) count (drop 2 bytes))
 
+sets_stay : (a : Image) (n : ℕ) (places bytes : List ℕ) → Stays a (with_sets a n places bytes)
+sets_stay a n [] bytes = stays a
+sets_stay a n (place ∷ places) bytes =
+    let b = cond (place == 0) a (with_each_byte a place (take n bytes)) in
+    let first : Stays a b = cond_stays (place == 0) a a _ (stays a) (bytes_stay a place (take n bytes)) in
+    then_stays a b (with_sets b n places (drop n bytes)) first (sets_stay b n places (drop n bytes))
+
 after_stays : (k : Syscall) (m : Machine) (bytes : List ℕ) → Stays m.memory (memory_after k m bytes)
 after_stays Readv m bytes = scattered_stays m.memory (targets_at m.memory (vector_count m) (length bytes) (argument m 1)) bytes
+after_stays Pselect6 m bytes = sets_stay m.memory (set_size m) (set_places m) bytes
 after_stays Ppoll m bytes = events_stay m.memory (argument m 0) (polled_count (argument m 1)) bytes
 after_stays k m bytes = at_stays m.memory (out_of k m) bytes
 

@@ -28,6 +28,11 @@ unfoldable pub scattered : Image → List Part → List ℕ → Image
 scattered memory [] bytes = memory
 scattered memory (part ∷ parts) bytes = scattered (with_each_byte memory part.address (take part.size bytes)) parts (drop part.size bytes)
 
+-- What is left of sets (select(2)), so many bytes each and one after another, over the places of those that are given. A place of 0 has no set.
+abbrev pub with_sets : Image → ℕ → List ℕ → List ℕ → Image
+with_sets memory n [] bytes = memory
+with_sets memory n (place ∷ places) bytes = with_sets (if place == 0 then memory else with_each_byte memory place (take n bytes)) n places (drop n bytes)
+
 -- What is told of so many descriptors (poll(2), revents), 2 bytes each: they go into the last 2 of the 8 that each has in the list from an address on.
 abbrev pub with_events : Image → ℕ → ℕ → List ℕ → Image
 with_events memory list zero bytes = memory

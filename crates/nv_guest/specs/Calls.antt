@@ -1,13 +1,13 @@
 -- Calls as the machine makes them, in Linux's convention for RISC-V (syscall(2)): number in a7, arguments in a0 to a5, result in a0.
-use Rattle.std.specs.Prelude.{ℕ, ◌+◌, ◌*◌, ◌==◌, min, List, [], ◌∷◌, ◌++◌, length, Bool, true, false, ℤ, Option, Some, None, option_map, nat_le, slice_set, if◌then◌else◌}
+use Rattle.std.specs.Prelude.{ℕ, ◌+◌, ◌*◌, ◌==◌, min, List, [], ◌∷◌, ◌++◌, length, replicate, Bool, true, false, ℤ, Option, Some, None, option_map, nat_le, slice_set, if◌then◌else◌}
 use Rattle.std.specs.Int.{w32, cast_unsigned}
 use Rattle.nv_calls.specs.declared.numbers.Syscall.{Syscall}
-use Rattle.nv_calls.specs.declared.numbers.Syscall.TheVariants.{Unlinkat, Openat, Write as WriteCall, Readv, Writev, Bind, ClockNanosleep, Ppoll}
+use Rattle.nv_calls.specs.declared.numbers.Syscall.TheVariants.{Unlinkat, Openat, Write as WriteCall, Readv, Writev, Bind, ClockNanosleep, Pselect6, Ppoll}
 use Rattle.nv_calls.specs.declared.numbers.Slot.{Slot}
 use Rattle.nv_calls.specs.declared.numbers.Slot.TheVariants.{Value, Address, Unused}
 use Rattle.nv_calls.specs.Calls.{Request}
 use Rattle.nv_calls.specs.Limits.{MOST_BYTES, MOST_VECTORS, MOST_PATH, MOST_ADDRESS, TIME_BYTES, POLLED_BYTES}
-use Rattle.nv_calls.specs.Answers.{polled_count, most_out_by, answer_slot}
+use Rattle.nv_calls.specs.Answers.{polled_count, selected_count, set_bytes, most_out_by, answer_slot}
 use Rattle.nv_calls.specs.Numbers.{syscall_of, slots_by}
 use Rattle.nv_memory.specs.declared.region.Right.TheVariants.{Read, Write}
 use Rattle.nv_memory.specs.Bytes.{bytes_at}
@@ -19,7 +19,7 @@ use Rattle.nv_guest.specs.declared.calls.Checked.{Checked}
 use Rattle.nv_guest.specs.declared.vectors.Part.{Part}
 use Rattle.nv_guest.specs.Paths.{path_at}
 use Rattle.nv_guest.specs.Vectors.{parts_at, capacity, joined_parts}
-use Rattle.nv_guest.specs.Answers.{with_each_byte, targets_at, scattered, with_events}
+use Rattle.nv_guest.specs.Answers.{with_each_byte, targets_at, scattered, with_sets, with_events}
 
 -- argument n, which is in register a0 + n
 abbrev pub argument : Machine → ℕ → ℕ
@@ -77,9 +77,9 @@ address_in m = first_bytes MOST_ADDRESS m
 abbrev pub readable : Image → ℕ → ℕ → Option (List ℕ)
 readable memory at n = if holds memory.regions at n Read then Some (bytes_at memory.bytes at n) else None
 
--- the time of ppoll; no bytes where none is given
-abbrev pub timeout_in : Machine → Option (List ℕ)
-timeout_in m = if argument m 2 == 0 then Some [] else readable m.memory (argument m 2) TIME_BYTES
+-- the time that this argument names; no bytes where none is given
+abbrev pub timeout_in : ℕ → Machine → Option (List ℕ)
+timeout_in n m = if argument m n == 0 then Some [] else readable m.memory (argument m n) TIME_BYTES
 
 abbrev pub both : Option (List ℕ) → Option (List ℕ) → Option (List ℕ)
 both None second = None
@@ -88,7 +88,28 @@ both (Some first) (Some second) = Some (first ++ second)
 
 -- what the descriptors of ppoll are polled for, and after it its time
 abbrev pub polled_bytes : Machine → Option (List ℕ)
-polled_bytes m = both (readable m.memory (argument m 0) (POLLED_BYTES * polled_count (argument m 1))) (timeout_in m)
+polled_bytes m = both (readable m.memory (argument m 0) (POLLED_BYTES * polled_count (argument m 1))) (timeout_in 2 m)
+
+-- the bytes of a set of pselect6
+abbrev pub set_size : Machine → ℕ
+set_size m = set_bytes (selected_count (argument m 0))
+
+-- the set that this argument names, where it may be read and written; zeros where none is given
+abbrev pub set_in : ℕ → Machine → Option (List ℕ)
+set_in n m = if argument m n == 0 then Some (replicate (set_size m) 0)
+    else if holds m.memory.regions (argument m n) (set_size m) Write then readable m.memory (argument m n) (set_size m) else None
+
+-- where the sets of pselect6 are
+abbrev pub set_places : Machine → List ℕ
+set_places m = argument m 1 ∷ argument m 2 ∷ argument m 3 ∷ []
+
+-- the sets of pselect6, one after another: of those that are asked to be readable, writable and in a special state
+abbrev pub sets_in : Machine → Option (List ℕ)
+sets_in m = both (both (set_in 1 m) (set_in 2 m)) (set_in 3 m)
+
+-- its sets, and after them its time
+abbrev pub selected_bytes : Machine → Option (List ℕ)
+selected_bytes m = both (sets_in m) (timeout_in 4 m)
 
 -- the first bytes of a path, or those before its 0
 abbrev pub path_in : Machine → Option (List ℕ)
@@ -143,6 +164,7 @@ handed Bind m = with_payload (address_in m)
 handed Writev m = with_payload (vectors_in m)
 handed Readv m = with_capacity (capacity_in m)
 handed ClockNanosleep m = with_payload (readable m.memory (argument m 2) TIME_BYTES)
+handed Pselect6 m = with_payload (selected_bytes m)
 handed Ppoll m = polled_in m
 handed k m = with_out m.memory (out_of k m)
 
@@ -163,6 +185,7 @@ stored_at memory (Some part) bytes = with_each_byte memory part.address bytes
 -- the memory with the bytes of an answer, as far as they may be written; a call without a place for them stores none
 abbrev pub memory_after : Syscall → Machine → List ℕ → Image
 memory_after Readv m bytes = scattered m.memory (targets_at m.memory (vector_count m) (length bytes) (argument m 1)) bytes
+memory_after Pselect6 m bytes = with_sets m.memory (set_size m) (set_places m) bytes
 memory_after Ppoll m bytes = with_events m.memory (argument m 0) (polled_count (argument m 1)) bytes
 memory_after k m bytes = stored_at m.memory (out_of k m) bytes
 

@@ -1,7 +1,7 @@
 // Answers in the guest's memory.
 ghost use Rattle.std.specs.Prelude.{◌≡◌, ◌≤◌, ◌+◌, ◌*◌, ◌^◌, length, min, take, option_map, true, false};
 ghost use Rattle.nv_guest.specs.Vectors.{vector_at, prefix_of};
-ghost use Rattle.nv_guest.specs.Answers.{with_byte, with_each_byte, targets_at, scattered, with_events};
+ghost use Rattle.nv_guest.specs.Answers.{with_byte, with_each_byte, targets_at, scattered, with_sets, with_events};
 
 use crate::vectors::{Part, vector_at};
 use nv_memory::Memory;
@@ -101,6 +101,21 @@ pub fn scatter(memory: &mut Memory, targets: &[Part], bytes: &[u8])
         store_bytes(memory, part.address, part_bytes);
         rest = later;
     }
+}
+
+/// Stores what is left of sets, so many bytes each and one after another, in the places of those that are given. What may not be written is
+/// dropped.
+pub fn store_sets(memory: &mut Memory, size: usize, places: &[u32], bytes: &[u8])
+    ensures { memory.new ≡ with_sets memory.old size places.now bytes.now }
+{
+    let Some((place, places)) = places.split_first() else {
+        return;
+    };
+    let (set, later) = bytes.split_at(bytes.len().min(size));
+    if *place != 0 {
+        store_bytes(memory, *place, set);
+    }
+    store_sets(memory, size, places, later);
 }
 
 /// Stores what is told of so many descriptors into the list of ppoll from an address on. What may not be written is dropped.

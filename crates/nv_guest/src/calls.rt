@@ -1,27 +1,30 @@
 // What a call hands over, and where its answer goes.
-ghost use Rattle.std.specs.Prelude.{◌≡◌, ◌≤◌, ◌+◌, ◌*◌, ◌++◌, length, Some, option_map, IfSome};
+ghost use Rattle.std.specs.Prelude.{◌≡◌, ◌≤◌, ◌+◌, ◌*◌, ◌++◌, length, replicate, Some, option_map, IfSome};
 ghost use Rattle.nv_guest.specs.Guest.{machine_with, machine_by};
 ghost use Rattle.nv_calls.specs.Calls.{request};
 ghost use Rattle.nv_calls.specs.Answers.{polled_count};
 ghost use Rattle.nv_calls.specs.Numbers.{is_local};
 ghost use Rattle.nv_calls.specs.Shapes.{IsShaped};
 ghost use Rattle.nv_guest.specs.Threads.{asked_as};
-ghost use Rattle.nv_guest.specs.Calls.{argument, call_number, call_at, kept, values, values_with, out_of, vector_count, path_in, first_bytes, readable, timeout_in, polled_bytes, polled_in, vectors_in, capacity_in, refused, with_payload, with_capacity, with_out, handed, handed_as, memory_after};
+ghost use Rattle.nv_guest.specs.Calls.{argument, call_number, call_at, kept, values, values_with, out_of, vector_count, path_in, first_bytes, readable, timeout_in, set_size, set_places, set_in, sets_in, selected_bytes, polled_bytes, polled_in, vectors_in, capacity_in, refused, with_payload, with_capacity, with_out, handed, handed_as, memory_after};
 
-use crate::answers::{read_targets, scatter, store_bytes, store_events};
+use crate::answers::{read_targets, scatter, store_bytes, store_events, store_sets};
 use crate::outcome::{Asked, asked_of};
 use crate::paths::read_path;
 use crate::vectors::{Part, capacity_of, gather};
 use arrayvec::ArrayVec;
 use nv_calls::{
     Bytes, Call, MOST_ADDRESS, MOST_BYTES, MOST_PATH, MOST_VECTORS, POLLED_BYTES, Slot, Syscall,
-    TIME_BYTES, polled_count,
+    TIME_BYTES, polled_count, selected_count, set_bytes,
 };
 use nv_machine::Regs;
 use nv_memory::{Memory, Right};
 
 /// The register of a call's number, a7.
 pub(crate) const NUMBER: u8 = 17;
+
+// The bytes of the largest set of pselect6.
+const MOST_SET: usize = 128;
 
 /// What a call hands over beside its payload.
 #[derive(Drop)]
@@ -77,6 +80,21 @@ fn fill_both(payload: &mut Bytes, first: &[u8], second: &[u8]) -> Checked
     append(&mut both, first);
     append(&mut both, second);
     fill(payload, both.as_slice())
+}
+
+// These sets one after the other, and after them this time, are the payload.
+fn fill_sets(payload: &mut Bytes, sets: (&[u8], &[u8], &[u8]), time: &[u8]) -> Checked
+    requires few { length sets.0.now + length sets.1.now + length sets.2.now + length time.now ≤ 4096 }
+    requires capacity { MOST_BYTES ≤ payload.old.capacity }
+    ensures handed { handed_as result payload.new.bytes ≡ with_payload (Some (((sets.entry.0.now ++ sets.entry.1.now) ++ sets.entry.2.now) ++ time.now)) }
+    ensures capacity { payload.new.capacity ≡ payload.old.capacity }
+{
+    let mut all = ArrayVec::<u8, 4096>::new();
+    append(&mut all, sets.0);
+    append(&mut all, sets.1);
+    append(&mut all, sets.2);
+    append(&mut all, time);
+    fill(payload, all.as_slice())
 }
 
 // A range isn't the guest's.
@@ -199,12 +217,13 @@ impl Caller<'_> {
         }
     }
 
-    // The time of ppoll; no bytes where none is given.
-    fn timeout(&self) -> Option<&[u8]>
-        ensures is { option_map (λ bytes. bytes.now) result ≡ timeout_in (machine_by self.now) }
+    // The time that argument `n` names; no bytes where none is given.
+    fn timeout(&self, n: u8) -> Option<&[u8]>
+        requires { n ≤ 5 }
+        ensures is { option_map (λ bytes. bytes.now) result ≡ timeout_in n (machine_by self.now) }
         ensures few { IfSome result (λ bytes. length bytes.now ≤ 16) }
     {
-        let address = self.argument(2);
+        let address = self.argument(n);
         if address == 0 {
             return Some(&[]);
         }
@@ -229,8 +248,58 @@ impl Caller<'_> {
         if !self.memory.holds(list, size, Right::Write) {
             return refuse(payload);
         }
-        match (self.readable(list, size), self.timeout()) {
+        match (self.readable(list, size), self.timeout(2)) {
             (Some(polled), Some(time)) => fill_both(payload, polled, time),
+            _ => refuse(payload),
+        }
+    }
+
+    // How many bytes a set of pselect6 has.
+    fn set_size(&self) -> u32
+        ensures size { result ≡ set_size (machine_by self.now) }
+        ensures few { result ≤ 128 }
+    {
+        set_bytes(selected_count(self.argument(0)))
+    }
+
+    // The set that argument `n` names, which may be read and written; the first of these zeros where none is given.
+    fn set<'a>(&'a self, n: u8, zeros: &'a [u8; MOST_SET]) -> Option<&'a [u8]>
+        requires argument { n ≤ 5 }
+        requires zeros { zeros.now ≡ replicate 128 0 }
+        ensures is { option_map (λ bytes. bytes.now) result ≡ set_in n (machine_by self.now) }
+        ensures few { IfSome result (λ bytes. length bytes.now ≤ 128) }
+    {
+        let (place, size) = (self.argument(n), self.set_size());
+        if place == 0 {
+            return Some(&zeros[..size as usize]);
+        }
+        if !self.memory.holds(place, size, Right::Write) {
+            return None;
+        }
+        self.readable(place, size)
+    }
+
+    // The sets of pselect6.
+    fn sets<'a>(&'a self, zeros: &'a [u8; MOST_SET]) -> Option<(&'a [u8], &'a [u8], &'a [u8])>
+        requires { zeros.now ≡ replicate 128 0 }
+        ensures is { option_map (λ sets. (sets.0.now ++ sets.1.now) ++ sets.2.now) result ≡ sets_in (machine_by self.now) }
+        ensures few { IfSome result (λ sets. length sets.0.now + length sets.1.now + length sets.2.now ≤ 384) }
+    {
+        let readable = self.set(1, zeros)?;
+        let writable = self.set(2, zeros)?;
+        let special = self.set(3, zeros)?;
+        Some((readable, writable, special))
+    }
+
+    // The sets of pselect6, and its time.
+    fn copy_selected(&self, payload: &mut Bytes) -> Checked
+        requires { MOST_BYTES ≤ payload.old.capacity }
+        ensures handed { handed_as result payload.new.bytes ≡ with_payload (selected_bytes (machine_by self.now)) }
+        ensures capacity { payload.new.capacity ≡ payload.old.capacity }
+    {
+        let zeros = [0; MOST_SET];
+        match (self.sets(&zeros), self.timeout(4)) {
+            (Some(sets), Some(time)) => fill_sets(payload, sets, time),
             _ => refuse(payload),
         }
     }
@@ -289,6 +358,7 @@ impl Caller<'_> {
             Syscall::Writev => self.gather_vectors(payload),
             Syscall::Readv => self.find_room(payload),
             Syscall::ClockNanosleep => self.copy_time(payload),
+            Syscall::Pselect6 => self.copy_selected(payload),
             Syscall::Ppoll => self.copy_polled(payload),
             _ => self.check_out(syscall, payload),
         }
@@ -334,6 +404,22 @@ fn vectors_of(caller: Caller<'_>) -> (u32, u32)
     (caller.argument(1), caller.vector_count())
 }
 
+// What is left of the sets of pselect6.
+fn copy_sets(regs: &Regs, memory: &mut Memory, bytes: &[u8])
+    ensures { memory.new ≡ memory_after Syscall.Pselect6 (machine_with regs.now memory.old) bytes.now }
+{
+    let (size, places) = sets_of(Caller { regs, memory });
+    store_sets(memory, size as usize, &places, bytes);
+}
+
+// How many bytes a set of pselect6 has, and where its sets are.
+fn sets_of(caller: Caller<'_>) -> (u32, [u32; 3])
+    ensures { result ≡ (set_size (machine_by caller.entry), set_places (machine_by caller.entry)) }
+{
+    let places = [caller.argument(1), caller.argument(2), caller.argument(3)];
+    (caller.set_size(), places)
+}
+
 // What ppoll tells of its descriptors.
 fn copy_events(regs: &Regs, memory: &mut Memory, bytes: &[u8])
     ensures { memory.new ≡ memory_after Syscall.Ppoll (machine_with regs.now memory.old) bytes.now }
@@ -356,6 +442,7 @@ pub(crate) fn copy_out(regs: &Regs, memory: &mut Memory, syscall: Syscall, bytes
 {
     match syscall {
         Syscall::Readv => scatter_out(regs, memory, bytes),
+        Syscall::Pselect6 => copy_sets(regs, memory, bytes),
         Syscall::Ppoll => copy_events(regs, memory, bytes),
         _ => {
             let out = Caller { regs, memory }.out_of(syscall);
