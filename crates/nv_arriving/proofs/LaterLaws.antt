@@ -24,11 +24,12 @@ use Rattle.nv_arriving.specs.declared.timing.Until.{Until}
 use Rattle.nv_arriving.specs.declared.timing.Until.TheVariants as until
 use Rattle.nv_arriving.specs.Flags.{flags_set, with_flags, flags, control_open, control_by, control_of}
 use Rattle.nv_arriving.specs.Timing.{slept}
-use Rattle.nv_arriving.specs.Polling.{polled_at, polled_from, polled_by, count_of, told_of, told_in, told_bytes, is_refused, with_bytes, poll_ret, poll_of}
-use Rattle.nv_calls.specs.Answers.{polled_count, most_out_by}
+use Rattle.nv_arriving.specs.Polling.{looked_at, count_as, places, told_of, told_in, ready_byte, told_as, told_bytes, is_refused, with_bytes, poll_ret, poll_of}
+use Rattle.nv_calls.specs.Answers.{polled_count, sets_bytes, most_out_by}
 use Rattle.nv_kernel.specs.Reserved.{most_out}
-use Rattle.nv_arriving.specs.declared.polled.Polled.{Polled}
 use Rattle.std.specs.Int.{to_le_bytes, w16}
+use Rattle.std.specs.List.{range_with_len}
+use Rattle.std.proofs.lemmas.List.FromFn.{length-range_with_len, length-map-range_with_len}
 use Rattle.nv_arriving.specs.Arriving.{Standing, with_state, with_end, unless_vain, Reached, counted, reached_by, would_wait, later_as, later, nonblocking_by, noted, note, own_answer, or_own, serve_by}
 
 -- ---- what stays
@@ -103,6 +104,7 @@ as_leaves call.Fcntl s c u =
     leaves_by s _ _ [] (ap (λ (t : State). t.own.served) still) (ap (λ (t : State). t.own.crew) still)
 as_leaves call.ClockNanosleep s c u = slept_leaves s u
 as_leaves call.Ppoll s c u = leaves_by s s _ _ refl refl
+as_leaves call.Pselect6 s c u = leaves_by s s _ _ refl refl
 as_leaves k s c u = empty_leaves s (would_wait k s c)
 
 in_leaves : (b : Bool) (k : Syscall) (s : Standing) (c : Request) (u : Until) → IfSome (if b then later_as k s c u else None) (Leaves s)
@@ -116,52 +118,59 @@ later_leaves s c u = in_leaves (s.polls && not c.bad) (syscall_of c.nr) s c u
 -- ---- how many bytes a later call hands out
 
 -- what is told of the first of so many, and of the others
-pub told_first : (s : Standing) (bytes : List ℕ) (place left : ℕ) → (left ≡ 0 → ⊥)
-    → told_in s (polled_from bytes place left) ≡ to_le_bytes w16 (told_of s (polled_at bytes place)) ++ told_in s (polled_from bytes (place + 1) (left - 1))
-told_first s bytes place zero h = absurd (h refl)
-told_first s bytes place (suc n) h =
+pub told_first : (s : Standing) (c : Request) (place left : ℕ) → (left ≡ 0 → ⊥)
+    → told_in s c (range_with_len place left) ≡ to_le_bytes w16 (told_of s (looked_at c place)) ++ told_in s c (range_with_len (place + 1) (left - 1))
+told_first s c place zero h = absurd (h refl)
+told_first s c place (suc n) h =
     let e : n ≡ suc n - 1 = omega arith in
-    ap (λ (m : ℕ). to_le_bytes w16 (told_of s (polled_at bytes place)) ++ told_in s (polled_from bytes (place + 1) m)) e
+    ap (λ (m : ℕ). to_le_bytes w16 (told_of s (looked_at c place)) ++ told_in s c (range_with_len (place + 1) m)) e
 
-polled_long : (bytes : List ℕ) (place n : ℕ) → length (polled_from bytes place n) ≡ n
-polled_long bytes place zero = refl
-polled_long bytes place (suc n) = ap suc (polled_long bytes (place + 1) n)
+told_long : (s : Standing) (c : Request) (ps : List ℕ) → length (told_in s c ps) ≡ 2 * length ps
+told_long s c [] = refl
+told_long s c (p ∷ ps) = omega (arith, told_long s c ps)
 
-told_long : (s : Standing) (ps : List Polled) → length (told_in s ps) ≡ 2 * length ps
-told_long s [] = refl
-told_long s (p ∷ ps) = omega (arith, told_long s ps)
+listed_few : (s : Standing) (c : Request) → syscall_of c.nr ≡ call.Ppoll → length (told_bytes s c) ≤ 2 * polled_count (request_arg c 1)
+listed_few s c e =
+    let same : length (told_bytes s c) ≡ length (told_in s c (places c)) = ap (λ (k : Syscall). length (told_as k s c)) e in
+    let count : length (places c) ≡ count_as call.Ppoll c = length-range_with_len 0 _ ∙ ap (λ (k : Syscall). count_as k c) e in
+    omega (arith, same, count, told_long s c (places c))
 
-told_few : (s : Standing) (c : Request) → length (told_bytes s c) ≤ 2 * polled_count (request_arg c 1)
-told_few s c = omega (arith, told_long s (polled_by c), polled_long c.payload 0 (count_of c))
+selected_few : (s : Standing) (c : Request) → syscall_of c.nr ≡ call.Pselect6 → length (told_bytes s c) ≤ sets_bytes c.args
+selected_few s c e =
+    let same : length (told_bytes s c) ≡ sets_bytes c.args
+    = ap (λ (k : Syscall). length (told_as k s c)) e ∙ length-map-range_with_len (ready_byte s c) 0 (sets_bytes c.args) in
+    omega (arith, same)
 
-with_few : (s : Standing) (c : Request) (ret : ℤ) → length (with_bytes s c ret).1 ≤ 2 * polled_count (request_arg c 1)
-with_few s c (pos n) = told_few s c
-with_few s c (negsuc n) = omega arith
+with_few : (s : Standing) (c : Request) (n : ℕ) (ret : ℤ) → length (told_bytes s c) ≤ n → length (with_bytes s c ret).1 ≤ n
+with_few s c n (pos m) h = h
+with_few s c n (negsuc m) h = omega arith
 
-poll_few : (s : Standing) (c : Request) (u : Until) → length (poll_of s c u).1 ≤ 2 * polled_count (request_arg c 1)
+poll_few : (s : Standing) (c : Request) (u : Until) (n : ℕ) → length (told_bytes s c) ≤ n → length (poll_of s c u).1 ≤ n
 unfolding poll_of
-poll_few s c u = by (is_refused c u) where
-  by : (b : Bool) → length (payload_by (if b then (EINVAL, []) else with_bytes s c (poll_ret s c u))) ≤ 2 * polled_count (request_arg c 1)
+poll_few s c u n h = by (is_refused c u) where
+  by : (b : Bool) → length (payload_by (if b then (EINVAL, []) else with_bytes s c (poll_ret s c u))) ≤ n
   by true = omega arith
-  by false = with_few s c (poll_ret s c u)
+  by false = with_few s c n (poll_ret s c u) h
 
 empty_few : (s : Standing) (n : ℕ) (b : Bool) → IfSome (if b then Some (reached_by (EAGAIN, s)) else None) (λ r. length r.payload ≤ n)
 empty_few s n true = omega arith
 empty_few s n false = tt
 
-as_few : (k : Syscall) (s : Standing) (c : Request) (u : Until) → IfSome (later_as k s c u) (λ r. length r.payload ≤ most_out_by k c.args)
-as_few call.Fcntl s c u = omega arith
-as_few call.ClockNanosleep s c u = omega arith
-as_few call.Ppoll s c u = poll_few s c u
-as_few k s c u = empty_few s (most_out_by k c.args) (would_wait k s c)
+as_few : (k : Syscall) (s : Standing) (c : Request) (u : Until) → syscall_of c.nr ≡ k → IfSome (later_as k s c u) (λ r. length r.payload ≤ most_out_by k c.args)
+as_few call.Fcntl s c u e = omega arith
+as_few call.ClockNanosleep s c u e = omega arith
+as_few call.Ppoll s c u e = poll_few s c u (2 * polled_count (request_arg c 1)) (listed_few s c e)
+as_few call.Pselect6 s c u e = poll_few s c u (sets_bytes c.args) (selected_few s c e)
+as_few k s c u e = empty_few s (most_out_by k c.args) (would_wait k s c)
 
-in_few : (b : Bool) (k : Syscall) (s : Standing) (c : Request) (u : Until) → IfSome (if b then later_as k s c u else None) (λ r. length r.payload ≤ most_out_by k c.args)
-in_few true k s c u = as_few k s c u
-in_few false k s c u = tt
+in_few : (b : Bool) (k : Syscall) (s : Standing) (c : Request) (u : Until) → syscall_of c.nr ≡ k
+    → IfSome (if b then later_as k s c u else None) (λ r. length r.payload ≤ most_out_by k c.args)
+in_few true k s c u e = as_few k s c u e
+in_few false k s c u e = tt
 
 pub later_few : (s : Standing) (c : Request) (u : Until) (r : Reached) → later s c u ≡ Some r → length r.payload ≤ most_out c
 unfolding later
-later_few s c u r e = subst (λ (o : Option Reached). IfSome o (λ z. length z.payload ≤ most_out c)) e (in_few (s.polls && not c.bad) (syscall_of c.nr) s c u)
+later_few s c u r e = subst (λ (o : Option Reached). IfSome o (λ z. length z.payload ≤ most_out c)) e (in_few (s.polls && not c.bad) (syscall_of c.nr) s c u refl)
 
 -- ---- what any call leaves
 

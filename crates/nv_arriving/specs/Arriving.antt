@@ -63,6 +63,7 @@ wants_on _ s c = None
 
 abbrev pub wants_as : Syscall → Standing → Request → Option Want
 wants_as call.Ppoll s c = if s.polls && poll_waits s c then Some want.Ready else None
+wants_as call.Pselect6 s c = if s.polls && poll_waits s c then Some want.Ready else None
 wants_as call.ClockNanosleep s c = if s.polls then sleep_wants s (until_of s c) else None
 wants_as k s c = if is_nonblocking s (request_arg c 0) then None else wants_on k s c
 
@@ -129,6 +130,7 @@ abbrev pub later_as : Syscall → Standing → Request → Until → Option Reac
 later_as call.Fcntl s c u = Some (reached_by (control_of s (request_arg c 0) (request_arg c 1) (request_arg c 2)))
 later_as call.ClockNanosleep s c u = Some (reached_by (slept s u))
 later_as call.Ppoll s c u = Some (polled s (poll_of s c u))
+later_as call.Pselect6 s c u = Some (polled s (poll_of s c u))
 later_as k s c u = if would_wait k s c then Some (reached_by (EAGAIN, s)) else None
 
 -- nothing of runs that don't have the later calls, and of calls on memory that isn't the guest's

@@ -1,6 +1,7 @@
 pub mod NonBlocking
 pub mod Standings
 pub mod Timing
+pub mod Selecting
 pub mod Polling
 pub mod Flags
 pub mod Arrivals

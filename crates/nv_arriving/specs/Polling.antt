@@ -1,11 +1,14 @@
--- ppoll(2): the descriptors of its list that are ready, what it waits for where none is, and what it answers.
-use Rattle.std.specs.Prelude.{ℕ, zero, suc, ◌+◌, ◌*◌, ◌/◌, ◌^◌, min, ℤ, pos, Bool, true, false, not, ◌&&◌, ◌||◌, ◌==◌, nat_lt, nat_le, bit_and, bit_or, List, [], ◌∷◌, ◌++◌, length, Option, Some, None, is_some, slice_index, if◌then◌else◌}
+-- ppoll(2) and select(2): which of the descriptors that a call looks at are ready, what it waits for where none is, and what it answers.
+use Rattle.std.specs.Prelude.{ℕ, zero, suc, ◌+◌, ◌*◌, ◌/◌, ◌^◌, min, ℤ, pos, Bool, true, false, not, ◌&&◌, ◌||◌, ◌==◌, nat_lt, nat_le, bit_and, bit_or, List, [], ◌∷◌, ◌++◌, length, map, Option, Some, None, is_some, is_none, slice_index, if◌then◌else◌}
 use Rattle.std.specs.Int.{from_le_bytes, to_le_bytes, w16, w32}
-use Rattle.std.specs.List.{list_any}
-use Rattle.nv_calls.specs.Answers.{polled_count}
+use Rattle.std.specs.List.{list_any, range_with_len, filter}
+use Rattle.nv_calls.specs.declared.numbers.Syscall.{Syscall}
+use Rattle.nv_calls.specs.declared.numbers.Syscall.TheVariants as call
+use Rattle.nv_calls.specs.Answers.{polled_count, sets_bytes}
 use Rattle.nv_calls.specs.Calls.{Request}
-use Rattle.nv_calls.specs.Errors.{EINTR, EINVAL}
+use Rattle.nv_calls.specs.Errors.{EBADF, EINTR, EINVAL}
 use Rattle.nv_calls.specs.Limits.{MOST_POLLED}
+use Rattle.nv_calls.specs.Numbers.{syscall_of}
 use Rattle.nv_fs.specs.Polls.{READABLE, WRITABLE, FAILED, HUNG, when, file_events}
 use Rattle.nv_fs.specs.States.{open_of}
 use Rattle.nv_fs.specs.Waits.{reads_input}
@@ -17,29 +20,39 @@ use Rattle.nv_arrivals.specs.Arrivals.{Arrival, Input, InputEnd, ClientsEnd, Con
 use Rattle.nv_arriving.specs.declared.polled.Polled.{Polled}
 use Rattle.nv_arriving.specs.declared.timing.Until.{Until}
 use Rattle.nv_arriving.specs.declared.timing.Until.TheVariants as until
+use Rattle.nv_arriving.specs.Selecting.{selected_at}
 use Rattle.nv_arriving.specs.Standings.{Standing, is_over}
 use Rattle.nv_arriving.specs.Timing.{until_of, is_past, is_reached}
 
--- ---- the list of a call: 8 bytes for each descriptor (poll(2))
+-- ---- the list of ppoll: 8 bytes for each descriptor (poll(2))
 
--- its number in 4 of them, and what it is polled for in 2
+-- its number in 4 of them, and what it is polled for in 2; POLLERR and POLLHUP are told unasked
 unfoldable pub polled_at : List ℕ → ℕ → Polled
 polled_at bytes place = record {
   fd = from_le_bytes w32 (slice_index bytes (place * 8) ∷ slice_index bytes (place * 8 + 1) ∷ slice_index bytes (place * 8 + 2) ∷ slice_index bytes (place * 8 + 3) ∷ []);
-  events = from_le_bytes w16 (slice_index bytes (place * 8 + 4) ∷ slice_index bytes (place * 8 + 5) ∷ []);
+  events = bit_or (from_le_bytes w16 (slice_index bytes (place * 8 + 4) ∷ slice_index bytes (place * 8 + 5) ∷ [])) (FAILED + HUNG);
 }
 
--- so many, from a place on
-abbrev pub polled_from : List ℕ → ℕ → ℕ → List Polled
-polled_from bytes place zero = []
-polled_from bytes place (suc n) = polled_at bytes place ∷ polled_from bytes (place + 1) n
+-- ---- what a call looks at: a descriptor in each place of its list, or of its sets
 
--- as many as the call says and its list has
-abbrev pub count_of : Request → ℕ
-count_of c = min (polled_count (request_arg c 1)) (length c.payload / 8)
+abbrev pub looked_as : Syscall → Request → ℕ → Polled
+looked_as call.Pselect6 c place = selected_at c place
+looked_as _ c place = polled_at c.payload place
 
-abbrev pub polled_by : Request → List Polled
-polled_by c = polled_from c.payload 0 (count_of c)
+abbrev pub looked_at : Request → ℕ → Polled
+looked_at c place = looked_as (syscall_of c.nr) c place
+
+-- as many as ppoll says and its list has
+abbrev pub listed_count : Request → ℕ
+listed_count c = min (polled_count (request_arg c 1)) (length c.payload / 8)
+
+-- of select the bits of its three sets
+abbrev pub count_as : Syscall → Request → ℕ
+count_as call.Pselect6 c = 8 * sets_bytes c.args
+count_as _ c = listed_count c
+
+abbrev pub places : Request → List ℕ
+places c = range_with_len 0 (count_as (syscall_of c.nr) c)
 
 -- a number below 0 is passed over
 abbrev pub is_passed : Polled → Bool
@@ -77,21 +90,21 @@ events_by s fd (Some socket) = Some (socket_events s socket)
 unfoldable pub events : Standing → ℕ → Option ℕ
 events s fd = events_by s fd (socket_at s.state.net fd)
 
--- what it is polled for, and what needs no asking
+-- those of the events that it is looked at for
 abbrev pub told : Polled → Option ℕ → ℕ
 told p None = NOT_OPEN
-told p (Some all) = bit_and all (bit_or p.events (FAILED + HUNG))
+told p (Some all) = bit_and all p.events
 
 abbrev pub told_of : Standing → Polled → ℕ
 told_of s p = if is_passed p then 0 else told p (events s p.fd)
 
--- of how many something is told
-abbrev pub ready_in : Standing → List Polled → ℕ
-ready_in s [] = 0
-ready_in s (p ∷ ps) = (if told_of s p == 0 then 0 else 1) + ready_in s ps
+-- something is told of the descriptor in this place
+abbrev pub is_ready : Standing → Request → ℕ → Bool
+is_ready s c place = not (told_of s (looked_at c place) == 0)
 
+-- in how many places
 abbrev pub ready : Standing → Request → ℕ
-ready s c = ready_in s (polled_by c)
+ready s c = length (filter (is_ready s c) (places c))
 
 -- ---- what ends its wait
 
@@ -106,10 +119,10 @@ abbrev pub calls_at : Polled → ℕ → Arrival → Bool
 calls_at p port (Connect other) = (other == port) && asks p READABLE
 calls_at p port _ = false
 
--- bytes of the input, where a read is asked for; of its end is told unasked
+-- bytes of the input, where a read is asked for, and its end
 abbrev pub comes_in : Polled → Arrival → Bool
 comes_in p (Input bytes) = asks p READABLE
-comes_in p InputEnd = true
+comes_in p InputEnd = asks p HUNG
 comes_in p _ = false
 
 abbrev pub readies_by : Standing → Polled → Arrival → Option Socket → Bool
@@ -125,7 +138,7 @@ readies s a p = if is_passed p then false else readies_by s p a (socket_at s.sta
 
 -- something may still come of a descriptor that makes it ready: bytes, or their end
 abbrev pub is_source_by : Standing → Polled → Option Socket → Bool
-is_source_by s p None = not s.input_over && reads_input (open_of s.state.own.files p.fd)
+is_source_by s p None = not s.input_over && (reads_input (open_of s.state.own.files p.fd) && asks p (READABLE + HUNG))
 is_source_by s p (Some Fresh) = false
 is_source_by s p (Some (Bound port)) = false
 is_source_by s p (Some (Listening port)) = false
@@ -135,26 +148,32 @@ unfoldable pub is_source : Standing → Polled → Bool
 is_source s p = if is_passed p then false else is_source_by s p (socket_at s.state.net p.fd)
 
 abbrev pub has_source : Standing → Request → Bool
-has_source s c = list_any (is_source s) (polled_by c)
+has_source s c = list_any (λ place. is_source s (looked_at c place)) (places c)
 
--- the service is at its end: no client comes, and nothing comes of what is polled
+-- the service is at its end: no client comes, and nothing comes of what is looked at
 abbrev pub is_at_end : Standing → Request → Bool
 is_at_end s c = s.clients_over && not (has_source s c)
 
--- The wait ends with the first arrival that makes one of the descriptors ready, with the time, and, where nothing else comes of what is polled, with the last client.
+-- The wait ends with the first arrival that makes one of the descriptors ready, with the time, and, where nothing else comes of what is looked at,
+-- with the last client.
 unfoldable pub ends_poll : Standing → Request → Arrival → Bool
 ends_poll s c ClientsEnd = not (has_source s c)
 ends_poll s c (Time seconds nanos) = is_reached (until_of s c) seconds nanos
-ends_poll s c a = list_any (readies s a) (polled_by c)
+ends_poll s c a = list_any (λ place. readies s a (looked_at c place)) (places c)
 
 abbrev pub is_bad : Until → Bool
 is_bad until.Bad = true
 is_bad until.Never = false
 is_bad (until.At seconds nanos) = false
 
--- more descriptors than can be polled, or a time that is none
+-- more descriptors than can be polled; a number below 0 of those that are selected
+abbrev pub has_bad_count : Syscall → Request → Bool
+has_bad_count call.Pselect6 c = nat_le (2 ^ 31) (request_arg c 0)
+has_bad_count _ c = nat_lt MOST_POLLED (request_arg c 1)
+
+-- so, or with a time that is none
 abbrev pub is_refused : Request → Until → Bool
-is_refused c u = nat_lt MOST_POLLED (request_arg c 1) || is_bad u
+is_refused c u = has_bad_count (syscall_of c.nr) c || is_bad u
 
 -- it waits
 unfoldable pub poll_waits : Standing → Request → Bool
@@ -171,16 +190,44 @@ past_answer s (until.At seconds nanos) = if is_past s seconds nanos then pos 0 e
 abbrev pub idle_answer : Standing → Request → Until → ℤ
 idle_answer s c u = if is_at_end s c then EINTR else past_answer s u
 
-abbrev pub poll_ret : Standing → Request → Until → ℤ
-poll_ret s c u = if ready s c == 0 then idle_answer s c u else pos (ready s c)
+abbrev pub is_closed : Standing → Polled → Bool
+is_closed s p = not (is_passed p) && is_none (events s p.fd)
 
--- what is told of each, in 2 bytes
-abbrev pub told_in : Standing → List Polled → List ℕ
-told_in s [] = []
-told_in s (p ∷ ps) = to_le_bytes w16 (told_of s p) ++ told_in s ps
+abbrev pub has_closed : Standing → Request → Bool
+has_closed s c = list_any (λ place. is_closed s (looked_at c place)) (places c)
+
+-- where one of the descriptors isn't open ppoll tells of it, and select is refused
+abbrev pub refuses_closed : Syscall → Standing → Request → Bool
+refuses_closed call.Pselect6 s c = has_closed s c
+refuses_closed _ s c = false
+
+abbrev pub ready_ret : Standing → Request → Until → ℤ
+ready_ret s c u = if ready s c == 0 then idle_answer s c u else pos (ready s c)
+
+abbrev pub poll_ret : Standing → Request → Until → ℤ
+poll_ret s c u = if refuses_closed (syscall_of c.nr) s c then EBADF else ready_ret s c u
+
+-- what is told of the descriptor in each of these places, in 2 bytes
+abbrev pub told_in : Standing → Request → List ℕ → List ℕ
+told_in s c [] = []
+told_in s c (place ∷ rest) = to_le_bytes w16 (told_of s (looked_at c place)) ++ told_in s c rest
+
+-- so many bits from a place on, the first the lowest: 1 where the descriptor is ready
+abbrev pub ready_bits : Standing → Request → ℕ → ℕ → ℕ
+ready_bits s c place zero = 0
+ready_bits s c place (suc n) = when (is_ready s c place) 1 + 2 * ready_bits s c (place + 1) n
+
+-- the byte of the sets with this number
+abbrev pub ready_byte : Standing → Request → ℕ → ℕ
+ready_byte s c at = ready_bits s c (8 * at) 8
+
+-- select hands out its sets, with those that are ready alone
+abbrev pub told_as : Syscall → Standing → Request → List ℕ
+told_as call.Pselect6 s c = map (ready_byte s c) (range_with_len 0 (sets_bytes c.args))
+told_as _ s c = told_in s c (places c)
 
 abbrev pub told_bytes : Standing → Request → List ℕ
-told_bytes s c = told_in s (polled_by c)
+told_bytes s c = told_as (syscall_of c.nr) s c
 
 -- an error hands out nothing
 abbrev pub with_bytes : Standing → Request → ℤ → ℤ × List ℕ

@@ -1,9 +1,9 @@
--- When a wait is over (ppoll(2), clock_nanosleep(2)).
+-- When a wait is over (ppoll(2), select(2), clock_nanosleep(2)).
 use Rattle.std.specs.Prelude.{ℕ, ◌+◌, ◌*◌, ◌/◌, ◌%◌, ◌^◌, ℤ, pos, Bool, false, ◌&&◌, ◌||◌, ◌==◌, nat_lt, nat_le, List, [], ◌∷◌, length, drop, Option, Some, None, slice_index, if◌then◌else◌}
 use Rattle.std.specs.Int.{from_le_bytes, w32}
 use Rattle.nv_calls.specs.declared.numbers.Syscall.{Syscall}
 use Rattle.nv_calls.specs.declared.numbers.Syscall.TheVariants as call
-use Rattle.nv_calls.specs.Answers.{polled_count}
+use Rattle.nv_calls.specs.Answers.{polled_count, sets_bytes}
 use Rattle.nv_calls.specs.Calls.{Request}
 use Rattle.nv_calls.specs.Errors.{EINVAL}
 use Rattle.nv_calls.specs.Limits.{POLLED_BYTES, TIME_BYTES}
@@ -42,11 +42,9 @@ after base bytes = after_time base (time_in bytes)
 
 -- ---- when the wait of a call is over
 
--- a time stands behind what is polled, where one is given
-abbrev pub poll_until : Standing → Request → Until
-poll_until s c =
-    let polled = POLLED_BYTES * polled_count (request_arg c 1) in
-    if length c.payload == polled + TIME_BYTES then after (now s) (drop polled c.payload) else until.Never
+-- a time stands behind so many bytes, where one is given
+abbrev pub poll_until : Standing → List ℕ → ℕ → Until
+poll_until s bytes n = if length bytes == n + TIME_BYTES then after (now s) (drop n bytes) else until.Never
 
 -- 0 is CLOCK_REALTIME and 1 CLOCK_MONOTONIC
 abbrev pub is_clock : ℕ → Bool
@@ -60,7 +58,8 @@ abbrev pub sleep_until : Standing → Request → Until
 sleep_until s c = if is_clock (request_arg c 0) && (length c.payload == TIME_BYTES) then after (base s (request_arg c 1)) c.payload else until.Bad
 
 abbrev pub until_as : Syscall → Standing → Request → Until
-until_as call.Ppoll s c = poll_until s c
+until_as call.Ppoll s c = poll_until s c.payload (POLLED_BYTES * polled_count (request_arg c 1))
+until_as call.Pselect6 s c = poll_until s c.payload (sets_bytes c.args)
 until_as call.ClockNanosleep s c = sleep_until s c
 until_as _ s c = until.Never
 

@@ -162,7 +162,7 @@ impl GuestSide {
         ensures { result ≡ wants_as syscall (standing_of self.now) (request call.now) }
     {
         match syscall {
-            Syscall::Ppoll => if self.polls && self.poll_waits(call) {
+            Syscall::Ppoll | Syscall::Pselect6 => if self.polls && self.poll_waits(call) {
                 Some(Want::Ready)
             } else {
                 None

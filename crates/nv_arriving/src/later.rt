@@ -39,7 +39,7 @@ impl GuestSide {
         match syscall {
             Syscall::Fcntl => Some(self.control(args[0], args[1], args[2])),
             Syscall::ClockNanosleep => Some(self.sleep(until)),
-            Syscall::Ppoll => Some(self.poll(call, until, out)),
+            Syscall::Ppoll | Syscall::Pselect6 => Some(self.poll(call, until, out)),
             _ => if self.would_wait(syscall, call) {
                 Some(EAGAIN)
             } else {

@@ -1,4 +1,5 @@
-//! The kernel of a run whose input arrives: what comes from outside isn't known when it is made. Calls wait for it, ppoll for several things at once.
+//! The kernel of a run whose input arrives: what comes from outside isn't known when it is made. Calls wait for it, ppoll and
+//! select for several things at once.
 //! Types: `Want`, `Until`, `NonBlocking`, `Polled`, `GuestSide`, `Guests` (what answers where input arrives), `ArrivingKernel`; `Listed`, where a script lists all that comes, and
 //! `ScriptedKernel` over it.
 //! Proved: it answers by its definition, though it takes from outside in the middle of a run; what comes later changes

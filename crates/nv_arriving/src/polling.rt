@@ -1,45 +1,54 @@
-// ppoll: what is ready, what ends its wait, and what it answers.
-ghost use Rattle.std.specs.Prelude.{◌≡◌, ◌+◌, ◌*◌, ◌≤◌, [], ◌++◌, length};
-ghost use Rattle.std.specs.List.{list_any};
+// ppoll and select: what is ready, what ends their wait, and what they answer.
+ghost use Rattle.std.specs.Prelude.{◌≡◌, ◌+◌, ◌*◌, ◌^◌, ◌≤◌, ◌<◌, [], ◌++◌, length, map};
+ghost use Rattle.std.specs.List.{list_any, range_with_len};
+ghost use Rattle.nv_calls.specs.Answers.{sets_bytes};
 ghost use Rattle.nv_calls.specs.Calls.{request};
 ghost use Rattle.nv_calls.specs.Limits.{MOST_BYTES};
+ghost use Rattle.nv_calls.specs.Numbers.{syscall_of};
 ghost use Rattle.nv_arrivals.specs.Views.{view as arrival_of};
-ghost use Rattle.nv_arriving.specs.Polling.{polled_from, connected_events, socket_events, events, told, told_of, ready_in, ready, comes_to, calls_at, comes_in, readies, is_source, has_source, is_at_end, ends_poll, is_refused, poll_waits, idle_answer, told_in, told_bytes, poll_of};
+ghost use Rattle.nv_arriving.specs.Polling.{looked_at, places, connected_events, socket_events, events, told, told_of, is_ready, ready, comes_to, calls_at, comes_in, readies, is_source, has_source, is_at_end, ends_poll, has_bad_count, is_refused, poll_waits, is_closed, has_closed, refuses_closed, idle_answer, poll_ret, told_in, ready_bits, ready_byte, told_bytes, poll_of};
 ghost use Rattle.nv_arriving.specs.Views.{standing_of};
 
 use crate::guests::GuestSide;
-use crate::polled::{Polled, count_of};
+use crate::polled::{Polled, count_of, listed_count};
 use crate::timing::Until;
 use arrayvec::ArrayVec;
 use nv_arrivals::Arrival;
-use nv_calls::errors::{EINTR, EINVAL};
-use nv_calls::{Bytes, Call, MOST_POLLED};
-use nv_fs::polls::{FAILED, HUNG, READABLE, WRITABLE, when};
+use nv_calls::errors::{EBADF, EINTR, EINVAL};
+use nv_calls::{Bytes, Call, MOST_POLLED, Syscall, sets_bytes};
+use nv_fs::polls::{HUNG, READABLE, WRITABLE, when};
 use nv_sockets::Socket;
 
 /// POLLNVAL: the descriptor isn't open.
 const NOT_OPEN: u32 = 0x20;
 
-/// POLLERR and POLLHUP, which are told unasked.
-const UNASKED: u32 = FAILED + HUNG;
-
 /// POLLRDHUP: the client has sent all.
 const SENT_ALL: u32 = 0x2000;
 
-// ppoll of more descriptors than can be polled, or with a time that is none.
+// More descriptors than can be polled; a number below 0 of those that are selected.
+fn has_bad_count(call: &Call) -> bool
+    ensures { result ≡ has_bad_count (syscall_of call.now.nr) (request call.now) }
+{
+    match Syscall::of(call.nr) {
+        Syscall::Pselect6 => call.args[0] >= 0x8000_0000,
+        _ => call.args[1] > MOST_POLLED,
+    }
+}
+
+// So, or with a time that is none.
 fn is_refused(call: &Call, until: Until) -> bool
     ensures { result ≡ is_refused (request call.now) until }
 {
-    call.args[1] > MOST_POLLED || matches!(until, Until::Bad)
+    has_bad_count(call) || matches!(until, Until::Bad)
 }
 
-// What is told of a descriptor of which this may be told: what it is polled for, and what needs no asking.
+// What is told of a descriptor of which this may be told.
 fn told(polled: Polled, events: Option<u32>) -> u32
     ensures { result ≡ told polled events }
 {
     match events {
         None => NOT_OPEN,
-        Some(all) => all & (polled.events | UNASKED),
+        Some(all) => all & polled.events,
     }
 }
 
@@ -72,7 +81,7 @@ fn comes_in(polled: Polled, arrival: &Arrival) -> bool
 {
     match arrival {
         Arrival::Input(_) => polled.asks(READABLE),
-        Arrival::InputEnd => true,
+        Arrival::InputEnd => polled.asks(HUNG),
         Arrival::ClientsEnd | Arrival::Connect(_) => false,
         Arrival::Data(_, _) | Arrival::End(_) | Arrival::Time(_, _) => false,
     }
@@ -128,26 +137,21 @@ impl GuestSide {
         told(polled, self.events(polled.fd))
     }
 
-    // Of how many descriptors something is told.
-    fn ready(&self, call: &Call) -> u32
-        ensures is { result ≡ ready (standing_of self.now) (request call.now) }
-        ensures few { result ≤ 408 }
+    // Whether something is told of the descriptor in a place.
+    fn is_ready(&self, call: &Call, place: u32) -> bool
+        ensures { result ≡ is_ready (standing_of self.now) (request call.now) place }
     {
-        self.ready_from(call.payload.as_slice(), 0, count_of(call))
+        self.told_of(Polled::at(call, place)) != 0
     }
 
-    // The same of so many, from a place in the list on.
-    fn ready_from(&self, bytes: &[u8], place: usize, left: usize) -> u32
-        requires inside { (place + left) * 8 ≤ length bytes.now }
-        requires few { left ≤ 408 }
-        ensures is { result ≡ ready_in (standing_of self.now) (polled_from bytes.now place left) }
-        ensures few { result ≤ left }
+    // In how many places something is told.
+    fn ready(&self, call: &Call) -> usize
+        ensures is { result ≡ ready (standing_of self.now) (request call.now) }
+        ensures few { result ≤ 3072 }
     {
-        if left == 0 {
-            return 0;
-        }
-        let told = self.told_of(Polled::at(bytes, place));
-        when(told != 0, 1) + self.ready_from(bytes, place + 1, left - 1)
+        (0..count_of(call))
+            .filter(|place| self.is_ready(call, *place))
+            .count()
     }
 
     // ---- what ends its wait
@@ -167,16 +171,11 @@ impl GuestSide {
         }
     }
 
-    // Whether it makes one of so many ready, from a place in the list on.
-    fn readies_one(&self, arrival: &Arrival, bytes: &[u8], place: usize, left: usize) -> bool
-        requires { (place + left) * 8 ≤ length bytes.now }
-        ensures { result ≡ list_any (readies (standing_of self.now) (arrival_of arrival.now)) (polled_from bytes.now place left) }
+    // Whether it makes one of those ready that the call looks at.
+    fn readies_one(&self, call: &Call, arrival: &Arrival) -> bool
+        ensures { result ≡ list_any (λ place. readies (standing_of self.now) (arrival_of arrival.now) (looked_at (request call.now) place)) (places (request call.now)) }
     {
-        if left == 0 {
-            return false;
-        }
-        self.readies(arrival, Polled::at(bytes, place))
-            || self.readies_one(arrival, bytes, place + 1, left - 1)
+        (0..count_of(call)).any(|place| self.readies(arrival, Polled::at(call, place)))
     }
 
     // Whether something may still come of the descriptor that makes it ready.
@@ -187,53 +186,45 @@ impl GuestSide {
             return false;
         }
         match self.host.sockets.at(polled.fd) {
-            None => !self.input_over && self.host.devices.files.reads_input(polled.fd),
+            None => {
+                !self.input_over
+                    && (self.host.devices.files.reads_input(polled.fd)
+                        && polled.asks(READABLE + HUNG))
+            }
             Some(Socket::Fresh) | Some(Socket::Bound(_)) | Some(Socket::Listening(_)) => false,
             Some(Socket::Connected(i)) => !self.is_over(i) && polled.asks(READABLE + SENT_ALL),
         }
     }
 
-    // Whether one of so many is such a one, from a place in the list on.
-    fn source_from(&self, bytes: &[u8], place: usize, left: usize) -> bool
-        requires { (place + left) * 8 ≤ length bytes.now }
-        ensures { result ≡ list_any (is_source (standing_of self.now)) (polled_from bytes.now place left) }
-    {
-        if left == 0 {
-            return false;
-        }
-        self.is_source(Polled::at(bytes, place)) || self.source_from(bytes, place + 1, left - 1)
-    }
-
+    // Whether the call looks at such a one.
     fn has_source(&self, call: &Call) -> bool
         ensures { result ≡ has_source (standing_of self.now) (request call.now) }
     {
-        self.source_from(call.payload.as_slice(), 0, count_of(call))
+        (0..count_of(call)).any(|place| self.is_source(Polled::at(call, place)))
     }
 
-    // Whether the service is at its end: no client comes, and nothing comes of what is polled.
+    // Whether the service is at its end: no client comes, and nothing comes of what is looked at.
     fn is_at_end(&self, call: &Call) -> bool
         ensures { result ≡ is_at_end (standing_of self.now) (request call.now) }
     {
         self.clients_over && !self.has_source(call)
     }
 
-    /// Whether the arrival ends the wait of ppoll.
+    /// Whether the arrival ends the wait of ppoll, or of select.
     pub(crate) fn ends_poll(&self, call: &Call, arrival: &Arrival) -> bool
         ensures { result ≡ ends_poll (standing_of self.now) (request call.now) (arrival_of arrival.now) }
     {
         match arrival {
             Arrival::ClientsEnd => !self.has_source(call),
             Arrival::Time(seconds, nanos) => self.until(call).is_reached(*seconds, *nanos),
-            Arrival::Input(_) | Arrival::InputEnd | Arrival::Connect(_) => {
-                self.readies_one(arrival, call.payload.as_slice(), 0, count_of(call))
-            }
-            Arrival::Data(_, _) | Arrival::End(_) => {
-                self.readies_one(arrival, call.payload.as_slice(), 0, count_of(call))
+            Arrival::Input(_) | Arrival::InputEnd => self.readies_one(call, arrival),
+            Arrival::Connect(_) | Arrival::Data(_, _) | Arrival::End(_) => {
+                self.readies_one(call, arrival)
             }
         }
     }
 
-    /// Whether ppoll waits.
+    /// Whether ppoll waits, or select.
     pub(crate) fn poll_waits(&self, call: &Call) -> bool
         ensures { result ≡ poll_waits (standing_of self.now) (request call.now) }
     {
@@ -242,29 +233,87 @@ impl GuestSide {
 
     // ---- the answer
 
-    // What is told of each descriptor of a call.
+    // What is told of so many descriptors of ppoll, from a place in its list on.
+    fn add_told(&self, list: &mut ArrayVec<u8, 816>, call: &Call, place: u32, left: u32)
+        requires few { place + left ≤ 408 }
+        requires room { length list.old.items + 2 * left ≤ 816 }
+        ensures { list.new.items ≡ list.old.items ++ told_in (standing_of self.now) (request call.now) (range_with_len place left) }
+    {
+        if left == 0 {
+            return;
+        }
+        let [low, high, _, _] = self.told_of(Polled::at(call, place)).to_le_bytes();
+        append(list, &[low, high]);
+        self.add_told(list, call, place + 1, left - 1);
+    }
+
+    // So many bits of the sets of select, from a place on.
+    fn ready_bits(&self, call: &Call, place: u32, left: u32) -> u8
+        requires few { left ≤ 8 }
+        requires fits { place + left ≤ 3072 }
+        ensures is { result ≡ ready_bits (standing_of self.now) (request call.now) place left }
+        ensures below { result < 2 ^ left }
+    {
+        if left == 0 {
+            return 0;
+        }
+        let first = u8::from(self.is_ready(call, place));
+        first + 2 * self.ready_bits(call, place + 1, left - 1)
+    }
+
+    // The sets of select, with those that are ready alone.
+    fn add_sets(&self, list: &mut ArrayVec<u8, 816>, call: &Call)
+        requires empty { list.old.items ≡ [] }
+        ensures { list.new.items ≡ map (ready_byte (standing_of self.now) (request call.now)) (range_with_len 0 (sets_bytes call.now.args)) }
+    {
+        for at in 0..sets_bytes(&call.args) {
+            append(list, &[self.ready_bits(call, 8 * at, 8)]);
+        }
+    }
+
+    // What is told of all that a call looks at.
+    fn add_all(&self, list: &mut ArrayVec<u8, 816>, call: &Call)
+        requires empty { list.old.items ≡ [] }
+        ensures { list.new.items ≡ told_bytes (standing_of self.now) (request call.now) }
+    {
+        match Syscall::of(call.nr) {
+            Syscall::Pselect6 => self.add_sets(list, call),
+            _ => self.add_told(list, call, 0, listed_count(call)),
+        }
+    }
+
     fn tell(&self, call: &Call, out: &mut Bytes)
         requires capacity { MOST_BYTES ≤ out.old.capacity }
         ensures bytes { out.new.bytes ≡ told_bytes (standing_of self.now) (request call.now) }
         ensures capacity { out.new.capacity ≡ out.old.capacity }
     {
         let mut list = ArrayVec::<u8, 816>::new();
-        self.add_told(&mut list, call.payload.as_slice(), 0, count_of(call));
+        self.add_all(&mut list, call);
         out.set(&list);
     }
 
-    // The same of so many, from a place in the list on.
-    fn add_told(&self, list: &mut ArrayVec<u8, 816>, bytes: &[u8], place: usize, left: usize)
-        requires inside { (place + left) * 8 ≤ length bytes.now }
-        requires room { length list.old.items + 2 * left ≤ 816 }
-        ensures { list.new.items ≡ list.old.items ++ told_in (standing_of self.now) (polled_from bytes.now place left) }
+    // Whether a descriptor that isn't passed over isn't open.
+    fn is_closed(&self, polled: Polled) -> bool
+        ensures { result ≡ is_closed (standing_of self.now) polled }
     {
-        if left == 0 {
-            return;
+        !polled.is_passed() && self.events(polled.fd).is_none()
+    }
+
+    // Whether the call looks at such a one.
+    fn has_closed(&self, call: &Call) -> bool
+        ensures { result ≡ has_closed (standing_of self.now) (request call.now) }
+    {
+        (0..count_of(call)).any(|place| self.is_closed(Polled::at(call, place)))
+    }
+
+    // Whether the call is refused for it: ppoll tells of it.
+    fn refuses_closed(&self, call: &Call) -> bool
+        ensures { result ≡ refuses_closed (syscall_of call.now.nr) (standing_of self.now) (request call.now) }
+    {
+        match Syscall::of(call.nr) {
+            Syscall::Pselect6 => self.has_closed(call),
+            _ => false,
         }
-        let [low, high, _, _] = self.told_of(Polled::at(bytes, place)).to_le_bytes();
-        append(list, &[low, high]);
-        self.add_told(list, bytes, place + 1, left - 1);
     }
 
     // Where nothing is ready: a wait that nothing ended is as one that a signal interrupts.
@@ -284,7 +333,22 @@ impl GuestSide {
         }
     }
 
-    /// ppoll(2) whose wait is over at this time.
+    // The result, but for what refuses a call.
+    fn poll_ret(&self, call: &Call, until: Until) -> i32
+        ensures { result ≡ poll_ret (standing_of self.now) (request call.now) until }
+    {
+        if self.refuses_closed(call) {
+            return EBADF;
+        }
+        let ready = self.ready(call);
+        if ready != 0 {
+            ready as i32
+        } else {
+            self.idle_answer(call, until)
+        }
+    }
+
+    /// ppoll(2) and select(2) whose wait is over at this time.
     pub(crate) fn poll(&self, call: &Call, until: Until, out: &mut Bytes) -> i32
         requires empty { out.old.bytes ≡ [] }
         requires capacity { MOST_BYTES ≤ out.old.capacity }
@@ -294,12 +358,7 @@ impl GuestSide {
         if is_refused(call, until) {
             return EINVAL;
         }
-        let ready = self.ready(call);
-        let ret = if ready != 0 {
-            ready as i32
-        } else {
-            self.idle_answer(call, until)
-        };
+        let ret = self.poll_ret(call, until);
         if ret >= 0 {
             self.tell(call, out);
         }

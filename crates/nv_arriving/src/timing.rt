@@ -7,7 +7,7 @@ ghost use Rattle.nv_arriving.specs.Views.{standing_of};
 use crate::guests::GuestSide;
 use crate::waiting::Want;
 use nv_calls::errors::EINVAL;
-use nv_calls::{Call, POLLED_BYTES, Syscall, polled_count};
+use nv_calls::{Call, POLLED_BYTES, Syscall, polled_count, sets_bytes};
 
 const SECOND: u128 = 1_000_000_000;
 
@@ -111,15 +111,15 @@ impl GuestSide {
         }
     }
 
-    fn poll_until(&self, call: &Call) -> Until
-        ensures { result ≡ poll_until (standing_of self.now) (request call.now) }
+    // The time behind so many bytes.
+    fn poll_until(&self, bytes: &[u8], count: u32) -> Until
+        ensures { result ≡ poll_until (standing_of self.now) bytes.now count }
     {
-        let bytes = call.payload.as_slice();
-        let polled = (POLLED_BYTES * polled_count(call.args[1])) as usize;
-        if bytes.len() != polled + 16 {
+        let start = count as usize;
+        if bytes.len() != start + 16 {
             return Until::Never;
         }
-        after(self.host.devices.now(), &bytes[polled..])
+        after(self.host.devices.now(), &bytes[start..])
     }
 
     fn sleep_until(&self, call: &Call) -> Until
@@ -136,8 +136,10 @@ impl GuestSide {
     pub(crate) fn until(&self, call: &Call) -> Until
         ensures { result ≡ until_of (standing_of self.now) (request call.now) }
     {
+        let bytes = call.payload.as_slice();
         match Syscall::of(call.nr) {
-            Syscall::Ppoll => self.poll_until(call),
+            Syscall::Ppoll => self.poll_until(bytes, POLLED_BYTES * polled_count(call.args[1])),
+            Syscall::Pselect6 => self.poll_until(bytes, sets_bytes(&call.args)),
             Syscall::ClockNanosleep => self.sleep_until(call),
             _ => Until::Never,
         }

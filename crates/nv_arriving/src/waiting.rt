@@ -22,7 +22,7 @@ pub enum Want {
     Data(usize),
     /// That it is so late: seconds, and nanoseconds after them.
     Time(u32, u32),
-    /// That a descriptor of its list is ready, or that its time has come.
+    /// That a descriptor that it looks at is ready, or that its time has come.
     Ready,
 }
 

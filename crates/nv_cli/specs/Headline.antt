@@ -22,16 +22,16 @@
 -- The clause `rejects`: files that are told up to one that is refused have it named, or memory wanted, or a write failed.
 -- The call of `main`, `nv_cli::program`: the words of the process, or why there are none, come to such an outcome too, and at the end the whole text stands on the sink, or just one write failed.
 -- And what these stand on, by crate and file. (.ci/headline.py --write makes the lines from here on.)
-use Rattle.nv_calls.specs.Answers.{polled_count, most_out_by, answer_slot}
+use Rattle.nv_calls.specs.Answers.{polled_count, selected_count, set_bytes, sets_bytes, most_out_by, answer_slot}
 use Rattle.nv_calls.specs.Calls.{Request, Response, Entry, status_of, is_same}
 use Rattle.nv_calls.specs.Constants.{result_alone, utsname_field, names, system, directory, process, parent, user, unless_bad, constant_by, constant_of}
 use Rattle.nv_calls.specs.Errors.{ENOENT, EINTR, EBADF, EAGAIN, EFAULT, EEXIST, ENOTDIR, EINVAL, EMFILE, ENOTTY, EFBIG, ENOSPC, ESPIPE, EPIPE, ERANGE, ENAMETOOLONG, ENOSYS, ENOTSOCK, EADDRINUSE, ENOTCONN}
 use Rattle.nv_calls.specs.Held.{Held}
-use Rattle.nv_calls.specs.Limits.{MOST_BYTES, MOST_VECTORS, MOST_PATH, MOST_ADDRESS, MOST_POLLED, TIME_BYTES, POLLED_BYTES, EVENTS_BYTES, FIRST_THREAD, MOST_THREADS, MOST_EVENTS}
+use Rattle.nv_calls.specs.Limits.{MOST_BYTES, MOST_VECTORS, MOST_PATH, MOST_ADDRESS, MOST_POLLED, MOST_SELECTED, TIME_BYTES, POLLED_BYTES, EVENTS_BYTES, FIRST_THREAD, MOST_THREADS, MOST_EVENTS}
 use Rattle.nv_calls.specs.Logs.{made, child_of, with_child, live_next, live_from, live_after, Written, Start, call_of, calls_of, served, output_of, connections_of}
 use Rattle.nv_calls.specs.Numbers.{CLONE, EXIT, EXIT_GROUP, Row, row, table, syscall_in, syscall_of, slots_by, has_range, is_of_threads, is_local, is_later}
 use Rattle.nv_calls.specs.Profiles.{bare, in_profile}
-use Rattle.nv_calls.specs.Shapes.{is_plain, are_plain, kept_slots, most_of_vectors, is_capacity, is_path, is_polled, is_payload, is_shaped_as, is_shaped}
+use Rattle.nv_calls.specs.Shapes.{is_plain, are_plain, kept_slots, most_of_vectors, is_capacity, is_path, is_timed, is_payload, is_shaped_as, is_shaped}
 use Rattle.nv_text.specs.Fields.{is_space, is_not_space, first_word, without_first, rest_of, fields}
 use Rattle.nv_text.specs.Lines.{is_newline, lines, line_number, is_blank, is_not_blank, trim_start, trim_end, trim, is_comma, operands_of, operands, is_letter, is_digit, is_name_byte, begins_name, is_name, Parts, prefix, rest_after, line_with, after_name, parted, line_of}
 use Rattle.nv_text.specs.Names.{defined, defining, definitions, or_later, first_fault}
@@ -53,9 +53,9 @@ use Rattle.nv_machine.specs.Registers.{Registers, written, fresh_registers}
 use Rattle.nv_elf.specs.Elf.{Range, Executable, ElfOf, entry_at, table_at, table_len, has_magic, has_class, has_versions, has_table, file_fault, header_at, headers_from, headers_of, is_loadable, loadables_of, is_interpreted, table_fault, is_outside, Extent, extent_of, shares, overlap_from, holds_entry, can_be_entry, overlap_fault, loadables_fault, elf_fault, range_in, executable_in, elf_unless, elf_of}
 use Rattle.nv_elf.specs.Faults.{elf_text}
 use Rattle.nv_elf.specs.Written.{file_header, flags_of, program_header, padding, table_from, contents_from, contents_at, elf_bytes}
-use Rattle.nv_guest.specs.Answers.{with_byte, with_each_byte, targets_with, targets_at, scattered, with_events}
+use Rattle.nv_guest.specs.Answers.{with_byte, with_each_byte, targets_with, targets_at, scattered, with_sets, with_events}
 use Rattle.nv_guest.specs.Block.{strings, addresses, words, all_arguments, strings_start, stack_pointer, stack_words, with_block}
-use Rattle.nv_guest.specs.Calls.{argument, call_number, kept, all_kept, values, values_with, out_of, vector_count, first_bytes, written_bytes, address_in, readable, timeout_in, both, polled_bytes, path_in, vectors_in, capacity_in, Handed, refused, with_payload, with_capacity, with_out, polled_in, handed, call_by, call_at, stored_at, memory_after, past_call, with_answer}
+use Rattle.nv_guest.specs.Calls.{argument, call_number, kept, all_kept, values, values_with, out_of, vector_count, first_bytes, written_bytes, address_in, readable, timeout_in, both, polled_bytes, set_size, set_in, set_places, sets_in, selected_bytes, path_in, vectors_in, capacity_in, Handed, refused, with_payload, with_capacity, with_out, polled_in, handed, call_by, call_at, stored_at, memory_after, past_call, with_answer}
 use Rattle.nv_guest.specs.Faults.{guest_text}
 use Rattle.nv_guest.specs.Guest.{one_thread}
 use Rattle.nv_guest.specs.Heap.{moved}
@@ -109,8 +109,9 @@ use Rattle.nv_arriving.specs.Doings.{of_bytes, socket_by, accepted_as, accepted,
 use Rattle.nv_arriving.specs.Flags.{NONBLOCK, is_nonblocking_by, is_nonblocking, flags_by, flags, flags_set, with_flags, control_open, control_by, control_of}
 use Rattle.nv_arriving.specs.Kernel.{after as nv_arriving_after}
 use Rattle.nv_arriving.specs.NonBlocking.{each_waits, is_nonblocking_socket, with_socket as nv_arriving_with_socket}
-use Rattle.nv_arriving.specs.Polling.{polled_at, polled_from, count_of as nv_arriving_count_of, polled_by, is_passed as nv_arriving_is_passed, asks as nv_arriving_asks, SENT_ALL, NOT_OPEN, connected_events, socket_events, events_by, events, told, told_of as nv_arriving_told_of, ready_in, ready, comes_to, calls_at, comes_in, readies_by, readies, is_source_by, is_source, has_source, is_at_end, ends_poll, is_bad, is_refused, poll_waits, past_answer, idle_answer, poll_ret, told_in, told_bytes, with_bytes as nv_arriving_with_bytes, poll_of}
+use Rattle.nv_arriving.specs.Polling.{polled_at, looked_as, looked_at, listed_count, count_as, places, is_passed as nv_arriving_is_passed, asks as nv_arriving_asks, SENT_ALL, NOT_OPEN, connected_events, socket_events, events_by, events, told, told_of as nv_arriving_told_of, is_ready, ready, comes_to, calls_at, comes_in, readies_by, readies, is_source_by, is_source, has_source, is_at_end, ends_poll, is_bad, has_bad_count, is_refused, poll_waits, past_answer, idle_answer, is_closed, has_closed, refuses_closed, ready_ret, poll_ret, told_in, ready_bits, ready_byte, told_as, told_bytes, with_bytes as nv_arriving_with_bytes, poll_of}
 use Rattle.nv_arriving.specs.Scripted.{start_from, stage_from}
+use Rattle.nv_arriving.specs.Selecting.{SPECIAL, set_events, set_bits, has_bit, PASSED, selected_at}
 use Rattle.nv_arriving.specs.Standings.{Standing, is_over as nv_arriving_is_over, with_state as nv_arriving_with_state}
 use Rattle.nv_arriving.specs.Timing.{word, time_in as nv_arriving_time_in, now, at, after_time, after as nv_arriving_Timing_after, poll_until, is_clock, base, sleep_until, until_as, until_of, is_past, reaches, is_reached, sleep_wants, with_time, slept}
 use Rattle.nv_bpf.specs.Actions.{actions, action_of}

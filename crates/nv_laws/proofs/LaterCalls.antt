@@ -33,6 +33,7 @@ as_still call.Fcntl s c u =
     record { files = ap (λ (t : State). t.own.files) still; net = ap (λ (t : State). t.net) still }
 as_still call.ClockNanosleep s c u = slept_still s u
 as_still call.Ppoll s c u = record { files = refl; net = refl }
+as_still call.Pselect6 s c u = record { files = refl; net = refl }
 as_still k s c u = unwaited_still s (would_wait k s c)
 
 in_still : (b : Bool) (k : Syscall) (s : Standing) (c : Request) (u : Until) → IfSome (if b then later_as k s c u else None) (Still s)

@@ -1,4 +1,0 @@
-use Rattle.nv_arriving.proofs.guests.GuestSide.+source_from.Given as goal
-
-abbrev pub decreases-source_from : goal.decreases-source_from
-decreases-source_from l = l.left
