@@ -14,3 +14,4 @@ pub mod Told
 pub mod Listing
 pub mod Standings
 pub mod Sending
+pub mod Saying

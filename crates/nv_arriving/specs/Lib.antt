@@ -14,5 +14,5 @@ pub mod Standing
 pub mod Beginnings
 pub mod Telling
 pub mod Doings
-pub mod Marks
+pub mod Said
 pub mod Scripted

@@ -8,24 +8,24 @@ ghost use Rattle.nv_sockets.specs.Coming.{HasPlaces};
 ghost use Rattle.nv_sockets.specs.Reserved.{CanSend};
 ghost use Rattle.nv_arriving.specs.Arriving.{Standing, wants_input, is_over, wants_data, read_wants, wants_client, accept_wants, wants_on, wants_as, wants, arrive, arrive_all, unless_vain, serve_by, first_standing};
 ghost use Rattle.nv_arriving.specs.Timing.{until_of};
-ghost use Rattle.nv_arriving.specs.Doings.{said};
-ghost use Rattle.nv_arriving.specs.Marks.{settled};
+ghost use Rattle.nv_arriving.specs.Doings.{of_bytes, said};
+ghost use Rattle.nv_arriving.specs.Said.{said_of, settled};
 ghost use Rattle.nv_arriving.specs.Telling.{Adds};
 ghost use Rattle.nv_arriving.specs.Reserved.{CanTakeIn, HasRoom, IsSameBut, IsKept, with_memory};
 ghost use Rattle.nv_arrivals.specs.Arrivals as spec;
-ghost use Rattle.nv_arrivals.specs.Doings.{Says};
+ghost use Rattle.nv_arrivals.specs.Doings.{Says, Sent, Printed};
 ghost use Rattle.nv_arrivals.specs.Views.{view as arrival_of};
 ghost use Rattle.nv_arriving.specs.Views.{standing_of, room_of};
 
 use crate::nonblocking::NonBlocking;
 use crate::prepared::Prepared;
 use crate::reserving::{connects, forget_all, input_bytes, promise_all};
-use crate::saying::Mark;
 use crate::waiting::Want;
-use nv_arrivals::{Arrival, Outside};
+use nv_arrivals::{Arrival, Outside, Said};
 use nv_calls::{Bytes, Call, MOST_BYTES, MOST_VECTORS, Syscall};
+use nv_fs::parts::prefix;
 use nv_script::Script;
-use nv_sockets::{Host, Socket, Sockets, are_flags};
+use nv_sockets::{Did, Host, Socket, Sockets, are_flags};
 use std::alloc::{AllocError, Global};
 
 /// What the kernel holds, and what won't come any more: bytes for descriptor 0, clients, and bytes of any connection.
@@ -44,15 +44,46 @@ pub struct GuestSide {
     kept: Prepared,
 }
 
-// What was written to the connection of a socket is let go, and the connection where the guests have closed it.
-fn settle(sockets: &mut Sockets, socket: Option<Socket>)
-    ensures net { sockets.new.net ≡ sockets.old.net }
-    ensures gone { sockets.new.held.gone ≡ settled sockets.old socket }
+fn say_sent<O: Outside>(outside: &mut O, i: usize, bytes: &[u8])
+    ensures says { Adds O.did outside.old outside.new (map Says (of_bytes (Sent i) bytes.now)) }
+    ensures stays { O.is_over outside.old → O.is_over outside.new }
 {
-    match socket {
-        Some(Socket::Connected(i)) => sockets.settle(i),
-        Some(Socket::Fresh) | Some(Socket::Bound(_)) | Some(Socket::Listening(_)) => {}
-        None => {}
+    if !bytes.is_empty() {
+        outside.say(&Said::Sent(i, bytes));
+    }
+}
+
+fn say_printed<O: Outside>(outside: &mut O, bytes: &[u8])
+    ensures says { Adds O.did outside.old outside.new (map Says (of_bytes Printed bytes.now)) }
+    ensures stays { O.is_over outside.old → O.is_over outside.new }
+{
+    if !bytes.is_empty() {
+        outside.say(&Said::Printed(bytes));
+    }
+}
+
+// Says what a call did that handed in these bytes.
+fn say<O: Outside>(outside: &mut O, did: Did, bytes: &[u8])
+    ensures says { Adds O.did outside.old outside.new (map Says (said_of did bytes.now)) }
+    ensures stays { O.is_over outside.old → O.is_over outside.new }
+{
+    match did {
+        Did::Nothing => {}
+        Did::Accepted(i) => outside.say(&Said::Accepted(i)),
+        Did::Sent(i, count) => say_sent(outside, i, prefix(bytes, count)),
+        Did::Closed(i) => outside.say(&Said::Closed(i)),
+        Did::Printed(count) => say_printed(outside, prefix(bytes, count)),
+    }
+}
+
+// What was written to the connection that a call sent bytes to or closed is let go, and the connection itself once it is closed.
+fn settle(sockets: &mut Sockets, did: Did)
+    ensures net { sockets.new.net ≡ sockets.old.net }
+    ensures gone { sockets.new.held.gone ≡ settled sockets.old did }
+{
+    match did {
+        Did::Sent(i, _) | Did::Closed(i) => sockets.settle(i),
+        Did::Nothing | Did::Accepted(_) | Did::Printed(_) => {}
     }
 }
 
@@ -237,25 +268,25 @@ impl GuestSide {
         }
     }
 
-    // What was said is let go: the console, and what was written to the connection of the call's socket.
-    fn let_go(&mut self, socket: Option<Socket>)
+    // What was said is let go: the console, and what was written to a connection.
+    fn let_go(&mut self, did: Did)
         ensures standing { standing_of self.new ≡ standing_of self.old }
         ensures console { self.new.host.devices.files.gone ≡ length self.new.host.devices.files.state.console }
-        ensures written { self.new.host.sockets.held.gone ≡ settled self.old.host.sockets socket }
+        ensures written { self.new.host.sockets.held.gone ≡ settled self.old.host.sockets did }
     {
         self.host.devices.files.let_console_go();
-        settle(&mut self.host.sockets, socket);
+        settle(&mut self.host.sockets, did);
     }
 
     // So, where it isn't kept.
-    fn let_go_unless(&mut self, keeps: bool, socket: Option<Socket>)
+    fn let_go_unless(&mut self, keeps: bool, did: Did)
         ensures standing { standing_of self.new ≡ standing_of self.old }
         ensures kept { keeps ≡ true → self.new ≡ self.old }
         ensures console { keeps ≡ false → self.new.host.devices.files.gone ≡ length self.new.host.devices.files.state.console }
-        ensures written { keeps ≡ false → self.new.host.sockets.held.gone ≡ settled self.old.host.sockets socket }
+        ensures written { keeps ≡ false → self.new.host.sockets.held.gone ≡ settled self.old.host.sockets did }
     {
         if !keeps {
-            self.let_go(socket);
+            self.let_go(did);
         }
     }
 
@@ -289,11 +320,10 @@ impl GuestSide {
         let until = self.until(call);
         self.arrive_all(arrivals);
         self.tell_end(vain);
-        let mark = Mark::of(&self.host, call);
-        let ret = self.answer_by(call, until, out);
-        mark.say(outside, &self.host, call, ret);
-        self.let_go_unless(keeps, mark.socket);
-        ret
+        let outcome = self.answer_by(call, until, out);
+        say(outside, outcome.did, call.payload.as_slice());
+        self.let_go_unless(keeps, outcome.did);
+        outcome.ret
     }
 
     // Memory for so many more clients.

@@ -6,7 +6,9 @@ ghost use Rattle.nv_calls.specs.Numbers.{syscall_of};
 ghost use Rattle.nv_kernel.specs.Reserved.{CanAnswer, most_out};
 ghost use Rattle.nv_sockets.specs.Reserved.{CanSend};
 ghost use Rattle.nv_arriving.specs.Arriving.{unless_vain, with_end, counted, would_wait, later_as, later, nonblocking_by, noted, serve_by};
+ghost use Rattle.nv_arriving.specs.Doings.{said};
 ghost use Rattle.nv_arriving.specs.Reserved.{IsKept};
+ghost use Rattle.nv_arriving.specs.Said.{said_of};
 ghost use Rattle.nv_arriving.specs.Views.{standing_of, room_of};
 
 use crate::flags::NONBLOCK;
@@ -14,6 +16,7 @@ use crate::guests::GuestSide;
 use crate::timing::Until;
 use nv_calls::errors::EAGAIN;
 use nv_calls::{Bytes, Call, Syscall};
+use nv_sockets::Outcome;
 
 #[tactic(auto, unfolding(crate::specs::Arriving::later, crate::specs::Arriving::serve_by))]
 impl GuestSide {
@@ -84,14 +87,15 @@ impl GuestSide {
         }
     }
 
-    /// The answer of a call whose wait is over at this time.
-    pub(crate) fn answer_by(&mut self, call: &Call, until: Until, out: &mut Bytes) -> i32
+    /// The answer of a call whose wait is over at this time, with what it did outside.
+    pub(crate) fn answer_by(&mut self, call: &Call, until: Until, out: &mut Bytes) -> Outcome
         requires ready { CanAnswer self.old.host.devices.files (request call.now) }
         requires sends { CanSend self.old.host.sockets (request call.now) }
         requires few { (standing_of self.old).state.own.served < MOST_EVENTS }
         requires capacity { MOST_BYTES ≤ out.old.capacity }
         requires clones { (standing_of self.old).state.own.crew.clones < MOST_EVENTS }
-        ensures answer { serve_by (standing_of self.old) (request call.now) until ≡ record { here = standing_of self.new; ret = result; payload = out.new.bytes } }
+        ensures answer { serve_by (standing_of self.old) (request call.now) until ≡ record { here = standing_of self.new; ret = result.ret; payload = out.new.bytes } }
+        ensures said { said (standing_of self.old).state (request call.now) result.ret (standing_of self.new).state ≡ said_of result.did call.now.payload.bytes }
         ensures capacity { out.new.capacity ≡ out.old.capacity }
         ensures few { length out.new.bytes ≤ most_out (request call.now) }
         ensures held { self.new.host.sockets.held ≡ self.old.host.sockets.held }
@@ -99,13 +103,13 @@ impl GuestSide {
         ensures kept { IsKept (room_of self.old) → IsKept (room_of self.new) }
     {
         if let Some(ret) = self.answer_later(call, until, out) {
-            return ret;
+            return Outcome::quiet(ret);
         }
-        let ret = self.host.answer(call, out);
+        let outcome = self.host.answer(call, out);
         if self.polls {
-            self.note(call, ret);
+            self.note(call, outcome.ret);
         }
-        ret
+        outcome
     }
 
     // Nothing more comes of anything.

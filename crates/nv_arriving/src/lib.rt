@@ -19,7 +19,6 @@ mod polled;
 mod polling;
 mod prepared;
 mod reserving;
-mod saying;
 mod scripted;
 mod timing;
 mod waiting;

@@ -7,3 +7,5 @@ pub mod Piped
 pub mod Firsts
 pub mod Rows
 pub mod Others
+pub mod Cases
+pub mod Console

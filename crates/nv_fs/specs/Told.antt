@@ -1,5 +1,5 @@
 -- What a descriptor names, as it is told.
-use Rattle.std.specs.Prelude.{ℕ, length, Option, None, Some}
+use Rattle.std.specs.Prelude.{ℕ, Bool, true, false, length, Option, None, Some}
 use Rattle.nv_fs.specs.declared.open_file.OpenFile.{OpenFile}
 use Rattle.nv_fs.specs.declared.open_file.Target.{Target}
 use Rattle.nv_fs.specs.declared.open_file.Target.TheVariants.{Input, Console, File, Reader, Writer}
@@ -22,3 +22,15 @@ told_of s (Some o) = told_by s o.1 o.1.target
 -- what the descriptor names: a file with the place where the next byte is read or written and with how many bytes it has
 unfoldable pub opened_as : FileState → ℕ → Opened
 opened_as s fd = told_of s (open_of s fd)
+
+abbrev pub is_console : Target → Bool
+is_console Console = true
+is_console _ = false
+
+abbrev pub prints_to : Option (ℕ × OpenFile) → Bool
+prints_to None = false
+prints_to (Some o) = is_console o.1.target
+
+-- what is written to the descriptor goes to the console
+unfoldable pub prints : FileState → ℕ → Bool
+prints s fd = prints_to (open_of s fd)

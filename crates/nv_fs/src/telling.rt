@@ -1,6 +1,6 @@
 // What a descriptor names, as it is told.
-ghost use Rattle.std.specs.Prelude.{◌≡◌};
-ghost use Rattle.nv_fs.specs.Told.{opened_as};
+ghost use Rattle.std.specs.Prelude.{◌≡◌, ◌≤◌, false};
+ghost use Rattle.nv_fs.specs.Told.{opened_as, prints};
 
 use crate::disk::FileSystem;
 use crate::open_file::Target;
@@ -19,7 +19,7 @@ pub enum Opened {
     PipeWrite,
 }
 
-#[tactic(auto, unfolding(crate::specs::Told::opened_as))]
+#[tactic(auto, unfolding(crate::specs::Told::opened_as, crate::specs::Told::prints))]
 impl FileSystem {
     /// What the descriptor names.
     pub fn opened(&self, fd: u32) -> Opened
@@ -37,6 +37,20 @@ impl FileSystem {
             },
             Target::Reader(_) => Opened::PipeRead,
             Target::Writer(_) => Opened::PipeWrite,
+        }
+    }
+
+    /// Whether what is written to the descriptor goes to the console.
+    pub fn prints(&self, fd: u32) -> bool
+        ensures is { result ≡ prints self.now.state fd }
+        ensures below { 64 ≤ fd → result ≡ false }
+    {
+        let Some((_, description)) = self.open_of(fd) else {
+            return false;
+        };
+        match description.target {
+            Target::Console => true,
+            Target::Input | Target::File(_) | Target::Reader(_) | Target::Writer(_) => false,
         }
     }
 }

@@ -13,7 +13,7 @@ use Rattle.nv_laws.specs.Tables.{number_at, HeldBeside, OpenBeside}
 use Rattle.nv_laws.specs.Calls.{ChangesNothing, OthersKeep, LetsGo}
 use Rattle.nv_laws.proofs.Lookups.{put_or_not}
 use Rattle.nv_laws.proofs.Holding.{shared_at as found_shared, shared_by, open_at, open_by, open_is}
-use Rattle.nv_laws.proofs.Cases.{by_test}
+use Rattle.nv_fs.proofs.Cases.{by_test}
 
 -- the same open file is found by the same number
 found_by : (s : FileState) (t : Target) (d number : ℕ) → number_at s d ≡ Some number → opens_to t (numbered s.opens (Some number)) ≡ true → opens_to t (open_of s d) ≡ true

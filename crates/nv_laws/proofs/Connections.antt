@@ -14,7 +14,7 @@ use Rattle.nv_script.specs.Scripts.{Setup, Incoming}
 use Rattle.nv_kernel.specs.Serving.{request_arg}
 use Rattle.nv_sockets.specs.declared.socket.Socket.{Socket}
 use Rattle.nv_sockets.specs.declared.socket.Socket.TheVariants.{Fresh, Bound, Listening, Connected}
-use Rattle.nv_sockets.specs.Sockets.{Inbox, Link, Net, Answer, only, socket_at, on_socket, is_tcp, made_at, socket_of, is_size, port_in, is_used, bind_to, bind_socket, bind_of, listen_socket, listen_of, free_place, next_at, accept_next, accept_socket, are_flags, accept_flagged, accept_of, is_going, link_output, read_socket, with_output, write_link, write_socket, close_socket}
+use Rattle.nv_sockets.specs.Sockets.{Link, Net, Answer, only, socket_at, on_socket, socket_of, is_size, port_in, is_used, bind_to, bind_socket, bind_of, listen_socket, listen_of, free_place, next_at, accept_next, accept_socket, are_flags, accept_flagged, accept_of, is_going, link_output, read_socket, with_output, write_link, write_socket, close_socket}
 use Rattle.nv_sockets.specs.Serving.{State, answered, unless_bad, or_own, serve, link_written, link_from}
 use Rattle.nv_arrivals.specs.Arrivals.{Arrival, Input, InputEnd, ClientsEnd, Connect, Data, End, Time}
 use Rattle.nv_arrivals.specs.Doings.{Said, Sent, Printed, sayings}
@@ -24,15 +24,16 @@ use Rattle.nv_arriving.specs.Timing.{until_of}
 use Rattle.nv_arriving.specs.Arriving.{Standing, Stage, Reached, with_state, wait_of, taken, arrive, arrive_all, later as answered_later, or_own as or_served, serve_by, ready_for, answer_next, serve_next, first_stage, stage_after, start_of_arrivals}
 use Rattle.nv_arriving.specs.Doings.{of_bytes, socket_by, accepted_as, accepted, written, sent, closed, said, doings_of, doings_from, doings}
 use Rattle.nv_arriving.specs.Kernel.{after}
+use Rattle.nv_sockets.proofs.Keeping.{no_link}
+use Rattle.nv_sockets.proofs.Outputs.{came, made_links}
 use Rattle.nv_arriving.proofs.LaterLaws.{vain_state, note_state}
 use Rattle.nv_arriving.proofs.Told.{sayings_both}
 use Rattle.nv_laws.specs.Sayings.{sent_bytes, sent_text, written_at}
-use Rattle.nv_laws.proofs.Cases.{by_test}
-use Rattle.nv_laws.proofs.Console.{drop-front, drop-all, sayings_of}
+use Rattle.nv_fs.proofs.Cases.{by_test}
+use Rattle.nv_arriving.proofs.Taken.{drop_all}
+use Rattle.nv_arriving.proofs.Saying.{after_same, sent_none}
+use Rattle.nv_laws.proofs.Console.{sayings_of}
 use Rattle.nv_laws.proofs.LaterCalls.{Still, later_still}
-
-abbrev no_link : Link
-no_link = record { port = 0; inbox = None; output = [] }
 
 -- ---- the links of a net
 
@@ -42,14 +43,6 @@ pushed [] x zero e = e
 pushed [] x (suc j) e = refl
 pushed (y ∷ ys) x zero e = refl
 pushed (y ∷ ys) x (suc j) e = pushed ys x j e
-
--- what isn't read of a link changes
-came : (xs : List Link) (i j : ℕ) (inbox : Option Inbox) → (slice_index_or (slice_set xs i (record (slice_index_or xs i no_link) { inbox = inbox })) j no_link).output ≡ (slice_index_or xs j no_link).output
-came [] i j inbox = refl
-came (x ∷ xs) zero zero inbox = refl
-came (x ∷ xs) zero (suc j) inbox = refl
-came (x ∷ xs) (suc i) zero inbox = refl
-came (x ∷ xs) (suc i) (suc j) inbox = came xs i j inbox
 
 -- other bytes are written: to this link, where it is one
 wrote : (xs : List Link) (i : ℕ) (bytes : List ℕ) → i < length xs → (slice_index_or (slice_set xs i (record (slice_index_or xs i no_link) { output = bytes })) i no_link).output ≡ bytes
@@ -87,13 +80,6 @@ of_text i j (b ∷ bytes) = append-nil (cond (i == j) (b ∷ bytes) [])
 abbrev Sends : Option Socket → Net → Net → Type 0
 Sends o net now = (j : ℕ) → link_output now j ≡ link_output net j ++ sent_text j (sent o (after (written net o) (written now o)))
 
-sent_none : (o : Option Socket) → sent o [] ≡ []
-sent_none None = refl
-sent_none (Some Fresh) = refl
-sent_none (Some (Bound port)) = refl
-sent_none (Some (Listening port)) = refl
-sent_none (Some (Connected i)) = refl
-
 written_same : (o : Option Socket) (net now : Net) → ((j : ℕ) → link_output now j ≡ link_output net j) → written now o ≡ written net o
 written_same None net now e = refl
 written_same (Some Fresh) net now e = refl
@@ -104,7 +90,7 @@ written_same (Some (Connected i)) net now e = e i
 same_outputs : (o : Option Socket) (net now : Net) → ((j : ℕ) → link_output now j ≡ link_output net j) → Sends o net now
 same_outputs o net now e j =
     let none : sent o (after (written net o) (written now o)) ≡ [] =
-    ap (λ z. sent o (after (written net o) z)) (written_same o net now e) ∙ (ap (sent o) (drop-all (written net o)) ∙ sent_none o) in
+    ap (λ z. sent o (after (written net o) z)) (written_same o net now e) ∙ (ap (sent o) (after_same (written net o)) ∙ sent_none o) in
     e j ∙ (sym (append-nil (link_output net j)) ∙ ap (λ z. link_output net j ++ sent_text j z) (sym none))
 
 same_links : (o : Option Socket) (net now : Net) → now.links ≡ net.links → Sends o net now
@@ -122,7 +108,7 @@ module _ (net : Net) (i : ℕ) (part : List ℕ) where
   inside : i < length net.links → Sends (Some (Connected i)) net later
   inside h j =
       let now : link_output later i ≡ link_output net i ++ part = wrote net.links i (link_output net i ++ part) h in
-      let new : after (link_output net i) (link_output later i) ≡ part = ap (after (link_output net i)) now ∙ drop-front (link_output net i) part in
+      let new : after (link_output net i) (link_output later i) ≡ part = ap (after (link_output net i)) now ∙ drop_all (link_output net i) part in
       let text : sent_text j (of_bytes (Sent i) (after (link_output net i) (link_output later i))) ≡ cond (i == j) part [] =
       ap (λ z. sent_text j (of_bytes (Sent i) z)) new ∙ of_text i j part in
       ⊎_elim
@@ -158,14 +144,6 @@ Of o net (Some a) = Sends o net a.net
 
 abbrev Leaves : Net → Answer → Type 0
 Leaves net a = a.net.links ≡ net.links
-
-made_cases : (net : Net) (place : Option ℕ) → Leaves net (made_at net place)
-made_cases net None = refl
-made_cases net (Some place) = refl
-
-socket_leaves : (net : Net) (domain kind protocol : ℕ) → Leaves net (socket_of net domain kind protocol)
-unfolding socket_of
-socket_leaves net domain kind protocol = by_test (Leaves net) (is_tcp domain kind protocol) (made_at net (free_place net)) (only net _) (made_cases net (free_place net)) refl
 
 to_cases : (net : Net) (fd : ℕ) (port : Option ℕ) → Leaves net (bind_to net fd port)
 to_cases net fd None = refl
@@ -247,7 +225,7 @@ abbrev asked_of : Net → Request → Option Socket
 asked_of net c = socket_at net (request_arg c 0)
 
 answers : (k : Syscall) (net : Net) (c : Request) → Of (asked_of net c) net (answered k net c)
-answers call.Socket net c = same_links (asked_of net c) net (socket_of net (request_arg c 0) (request_arg c 1) (request_arg c 2)).net (socket_leaves net (request_arg c 0) (request_arg c 1) (request_arg c 2))
+answers call.Socket net c = same_links (asked_of net c) net (socket_of net (request_arg c 0) (request_arg c 1) (request_arg c 2)).net (made_links net (request_arg c 0) (request_arg c 1) (request_arg c 2))
 answers call.Bind net c = same_links (asked_of net c) net (bind_of net (request_arg c 0) (request_arg c 2) c.payload).net (bind_leaves net (request_arg c 0) (request_arg c 2) c.payload)
 answers call.Listen net c = same_links (asked_of net c) net (listen_of net (request_arg c 0)).net (listen_leaves net (request_arg c 0))
 answers call.Accept net c = same_links (asked_of net c) net (accept_of net (request_arg c 0) 0).net (accept_leaves net (request_arg c 0) 0)

@@ -19,7 +19,7 @@ use Rattle.nv_laws.specs.Calls.{is_error, ChangesNothing, TakesNew, HasOpened, H
 use Rattle.nv_laws.proofs.Lookups.{some_is, or_none, is_inside, put_or_not, get_drop, with_or_other, with_or_same, first_is}
 use Rattle.nv_laws.proofs.Holding.{open_is, file_is_free, free_file_near, pipe_is_free, free_pipe_near, takes_new, is_installed}
 use Rattle.nv_laws.proofs.Sound.{with_pipe_is_sound, first_end_is_sound, emptied_is_sound, with_file_is_sound}
-use Rattle.nv_laws.proofs.Cases.{by_test}
+use Rattle.nv_fs.proofs.Cases.{by_test}
 
 -- a descriptor that is found free
 none_is : (ds : List (Option ℕ)) (fd : ℕ) (x : Option ℕ) → slice_get ds fd ≡ Some x → is_none x ≡ true → get_or ds fd None ≡ None

@@ -1,7 +1,6 @@
 -- What a socket answers is refused without sockets.
-use Rattle.std.proofs.Common.{◌≡◌, ◌∙◌, sym, ap, subst, refl, ℕ, ◌≤◌, ◌-◌, Bool, true, false, cond, nat_lt, min, List, [], Option, Some, None, option_map, arith}
-use Rattle.std.specs.Prelude.{slice_index, slice_index_or}
-use Rattle.std.proofs.lemmas.Bool.Decides.{nat_tests}
+use Rattle.std.proofs.Common.{◌≡◌, ◌∙◌, sym, ap, subst, refl, ℕ, ◌≤◌, Bool, true, false, cond, nat_lt, min, List, [], Option, Some, None, option_map, arith}
+use Rattle.std.specs.Prelude.{slice_index}
 use Rattle.std.proofs.lemmas.List.{get_or_past}
 use Rattle.nv_calls.specs.declared.numbers.Syscall.{Syscall}
 use Rattle.nv_calls.specs.declared.numbers.Syscall.TheVariants as call
@@ -19,6 +18,7 @@ use Rattle.nv_kernel.specs.Serving.{serve}
 use Rattle.nv_sockets.specs.declared.socket.Socket.{Socket}
 use Rattle.nv_sockets.specs.Sockets.{Net, Answer, socket_at}
 use Rattle.nv_sockets.specs.Serving.{State, of_open, unless_many, answered, unless_bad}
+use Rattle.nv_sockets.proofs.Outputs.{socket_far}
 use Rattle.nv_laws.specs.Refused.{ChangesCountAlone}
 
 -- a descriptor from 64 on is that of no file
@@ -39,14 +39,6 @@ unfolding close_of
 close_far s fd h l = ap (close_open s fd) (far s fd h l)
 
 -- an open socket has such a descriptor
-socket_far : (net : Net) (fd : ℕ) (x : Socket) → socket_at net fd ≡ Some x → 64 ≤ fd
-unfolding socket_at
-socket_far net fd x h = by (nat_lt fd 64) refl h
-  where
-    by : (b : Bool) → nat_lt fd 64 ≡ b → cond {A = Option Socket} b None (slice_index_or net.sockets (fd - 64) None) ≡ Some x → 64 ≤ fd
-    by true e g = cc
-    by false e g = grind (arith, nat_tests)
-
 open_far : (net : Net) (fd : ℕ) (next : Socket → Answer) (a : Answer) → of_open net fd next ≡ Some a → 64 ≤ fd
 open_far net fd next a h = by (socket_at net fd) refl h
   where

@@ -19,7 +19,7 @@ use Rattle.nv_fs.specs.Stored.{write_of, with_content}
 use Rattle.nv_laws.specs.Tables.{StandsIn, AreSoundTables}
 use Rattle.nv_laws.proofs.Lookups.{some_is, is_inside, set_other, set_same, put_or_not, with_other, with_same, with_longer, with_inside, first_is}
 use Rattle.nv_laws.proofs.Holding.{open_is, stands, free_open_near, free_file_near, free_pipe_near}
-use Rattle.nv_laws.proofs.Cases.{by_test, seek_cases, read_cases, write_cases}
+use Rattle.nv_fs.proofs.Cases.{by_test, seek_cases, read_cases, write_cases}
 
 -- tables that have grown
 stands_on : (f g p q : ℕ) (t : Target) → f ≤ g → p ≤ q → StandsIn f p t → StandsIn g q t

@@ -17,7 +17,7 @@ use Rattle.nv_laws.specs.Tables.{number_at}
 use Rattle.nv_laws.specs.Calls.{TakesAName, StaysWithin}
 use Rattle.nv_laws.proofs.Lookups.{set_other, put_or_not}
 use Rattle.nv_laws.proofs.Holding.{open_is}
-use Rattle.nv_laws.proofs.Cases.{by_test, seek_cases, read_cases, write_cases}
+use Rattle.nv_fs.proofs.Cases.{by_test, seek_cases, read_cases, write_cases}
 
 stays : (s : FileState) (fd : ℕ) → StaysWithin s s fd
 stays s fd = record { descriptors = refl; opens = λ n q. refl; files = λ i. inr refl; pipes = λ k. inr (inr refl) }

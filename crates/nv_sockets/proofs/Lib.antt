@@ -8,3 +8,5 @@ pub mod Going
 pub mod Threads
 pub mod Lines
 pub mod Standings
+pub mod Printing
+pub mod Outputs

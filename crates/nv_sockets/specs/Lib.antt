@@ -8,3 +8,4 @@ pub mod Kernel
 pub mod Texts
 pub mod Coming
 pub mod Standing
+pub mod Did

@@ -1,10 +1,14 @@
 // read, write and close of sockets, and the calls by their numbers.
-ghost use Rattle.std.specs.Prelude.{◌≡◌, ◌+◌, ◌≤◌, ◌<◌, true, [], ◌++◌, Some, None, min, length, OnOk};
+ghost use Rattle.std.specs.Prelude.{◌≡◌, ◌+◌, ◌≤◌, ◌<◌, true, [], ◌++◌, Some, None, min, length, nat_lt, OnOk, if◌then◌else◌};
 ghost use Rattle.nv_calls.specs.Calls.{request};
-ghost use Rattle.nv_sockets.specs.Sockets.{answer, is_going, link_at, link_output, with_link, read_link, read_socket, with_output, write_link, write_socket, close_socket};
+ghost use Rattle.nv_calls.specs.Limits.{MOST_VECTORS};
+ghost use Rattle.nv_sockets.specs.Sockets.{answer, is_going, link_at, link_output, socket_at, with_link, read_link, read_socket, with_output, write_link, write_socket, close_socket};
 ghost use Rattle.nv_sockets.specs.Serving.{of_open, unless_many, answered, or_own};
 ghost use Rattle.nv_sockets.specs.Reserved.{HasMemory, HoldsMore, CanWriteTo, CanWrite, can_send};
+ghost use Rattle.nv_sockets.specs.declared.did.Did.TheVariants.{Nothing};
+ghost use Rattle.nv_sockets.specs.Did.{at_open, sent, closed, did_beside};
 
+use crate::did::{Did, Outcome};
 use crate::socket::Socket;
 use crate::sockets::Sockets;
 use nv_calls::errors::{ENOSPC, ENOTCONN, EPIPE};
@@ -75,14 +79,15 @@ impl Sockets {
         part.len() as i32
     }
 
-    fn write_socket(&mut self, bytes: &[u8], socket: Socket) -> i32
+    fn write_socket(&mut self, bytes: &[u8], socket: Socket) -> Outcome
         requires { CanWriteTo self.old (Some socket) (length bytes.now) }
-        ensures answer { write_socket self.old.net bytes.now socket ≡ answer self.new.net result [] }
+        ensures answer { write_socket self.old.net bytes.now socket ≡ answer self.new.net result.ret [] }
+        ensures did { result.did ≡ sent result.ret socket }
         ensures held { self.new.held ≡ self.old.held }
     {
         match socket {
-            Socket::Connected(i) => self.write_connection(i, bytes),
-            Socket::Fresh | Socket::Bound(_) | Socket::Listening(_) => EPIPE,
+            Socket::Connected(i) => Outcome::sent(i, self.write_connection(i, bytes)),
+            Socket::Fresh | Socket::Bound(_) | Socket::Listening(_) => Outcome::quiet(EPIPE),
         }
     }
 
@@ -114,23 +119,32 @@ impl Sockets {
 
     // write(2).
     #[tactic(auto, unfolding(crate::specs::Reserved::CanWrite))]
-    fn write(&mut self, fd: u32, bytes: &[u8], own: i32, out: &mut Bytes) -> i32
+    fn write(&mut self, fd: u32, bytes: &[u8], own: Outcome, out: &mut Bytes) -> Outcome
         requires { CanWrite self.old fd (length bytes.now) }
-        ensures answer { or_own self.old.net own out.old.bytes (of_open self.old.net fd (write_socket self.old.net bytes.now)) ≡ answer self.new.net result out.new.bytes }
+        ensures answer { or_own self.old.net own.ret out.old.bytes (of_open self.old.net fd (write_socket self.old.net bytes.now)) ≡ answer self.new.net result.ret out.new.bytes }
+        ensures did { result.did ≡ at_open own.did (sent result.ret) (socket_at self.old.net fd) }
         ensures held { self.new.held ≡ self.old.held }
         ensures capacity { out.new.capacity ≡ out.old.capacity }
     {
         let Some(socket) = self.at(fd) else {
             return own;
         };
-        let ret = self.write_socket(bytes, socket);
-        refuse(out, ret)
+        out.set(&[]);
+        self.write_socket(bytes, socket)
     }
 
     // writev(2), of vectors that hold these bytes.
-    fn write_vectors(&mut self, fd: u32, count: u32, bytes: &[u8], own: i32, out: &mut Bytes) -> i32
+    fn write_vectors(
+        &mut self,
+        fd: u32,
+        count: u32,
+        bytes: &[u8],
+        own: Outcome,
+        out: &mut Bytes,
+    ) -> Outcome
         requires { CanWrite self.old fd (length bytes.now) }
-        ensures answer { or_own self.old.net own out.old.bytes (unless_many count (of_open self.old.net fd (write_socket self.old.net bytes.now))) ≡ answer self.new.net result out.new.bytes }
+        ensures answer { or_own self.old.net own.ret out.old.bytes (unless_many count (of_open self.old.net fd (write_socket self.old.net bytes.now))) ≡ answer self.new.net result.ret out.new.bytes }
+        ensures did { result.did ≡ (if nat_lt MOST_VECTORS count then own.did else at_open own.did (sent result.ret) (socket_at self.old.net fd)) }
         ensures held { self.new.held ≡ self.old.held }
         ensures capacity { out.new.capacity ≡ out.old.capacity }
     {
@@ -153,31 +167,38 @@ impl Sockets {
         self.lay(p, i, one);
     }
 
-    fn close_socket(&mut self, fd: u32, socket: Socket) -> i32
+    fn close_socket(&mut self, fd: u32, socket: Socket) -> Outcome
         requires low { 64 ≤ fd }
         requires high { fd < 64 + length self.old.net.sockets }
-        ensures answer { close_socket self.old.net fd socket ≡ answer self.new.net result [] }
+        ensures answer { close_socket self.old.net fd socket ≡ answer self.new.net result.ret [] }
+        ensures did { result.did ≡ closed socket }
         ensures held { self.new.held ≡ self.old.held }
     {
         self.put(fd, None);
         match socket {
-            Socket::Connected(i) => self.close_connection(i),
-            Socket::Fresh | Socket::Bound(_) | Socket::Listening(_) => {}
+            Socket::Connected(i) => {
+                self.close_connection(i);
+                Outcome {
+                    ret: 0,
+                    did: Did::Closed(i),
+                }
+            }
+            Socket::Fresh | Socket::Bound(_) | Socket::Listening(_) => Outcome::quiet(0),
         }
-        0
     }
 
     // close(2).
-    fn close(&mut self, fd: u32, own: i32, out: &mut Bytes) -> i32
-        ensures answer { or_own self.old.net own out.old.bytes (of_open self.old.net fd (close_socket self.old.net fd)) ≡ answer self.new.net result out.new.bytes }
+    fn close(&mut self, fd: u32, own: i32, out: &mut Bytes) -> Outcome
+        ensures answer { or_own self.old.net own out.old.bytes (of_open self.old.net fd (close_socket self.old.net fd)) ≡ answer self.new.net result.ret out.new.bytes }
+        ensures did { result.did ≡ at_open Nothing closed (socket_at self.old.net fd) }
         ensures held { self.new.held ≡ self.old.held }
         ensures capacity { out.new.capacity ≡ out.old.capacity }
     {
         let Some(socket) = self.at(fd) else {
-            return own;
+            return Outcome::quiet(own);
         };
-        let ret = self.close_socket(fd, socket);
-        refuse(out, ret)
+        out.set(&[]);
+        self.close_socket(fd, socket)
     }
 
     /// What a call is answered to which the kernel without sockets gave this answer.
@@ -185,12 +206,13 @@ impl Sockets {
         &mut self,
         syscall: Syscall,
         call: &Call,
-        own: i32,
+        own: Outcome,
         out: &mut Bytes,
-    ) -> i32
+    ) -> Outcome
         requires ready { can_send syscall self.old (request call.now) }
         requires capacity { MOST_BYTES ≤ out.old.capacity }
-        ensures answer { or_own self.old.net own out.old.bytes (answered syscall self.old.net (request call.now)) ≡ answer self.new.net result out.new.bytes }
+        ensures answer { or_own self.old.net own.ret out.old.bytes (answered syscall self.old.net (request call.now)) ≡ answer self.new.net result.ret out.new.bytes }
+        ensures did { result.did ≡ did_beside syscall self.old.net (request call.now) own.did result.ret self.new.net }
         ensures held { self.new.held ≡ self.old.held }
         ensures capacity { out.new.capacity ≡ out.old.capacity }
     {
@@ -199,30 +221,32 @@ impl Sockets {
         match syscall {
             Syscall::Socket => {
                 let ret = self.make_socket(args[0], args[1], args[2]);
-                refuse(out, ret)
+                Outcome::quiet(refuse(out, ret))
             }
             Syscall::Bind => {
                 let ret = self.bind(args[0], args[2], bytes);
-                refuse(out, ret)
+                Outcome::quiet(refuse(out, ret))
             }
             Syscall::Listen => {
                 let ret = self.listen(args[0]);
-                refuse(out, ret)
+                Outcome::quiet(refuse(out, ret))
             }
             Syscall::Accept => {
-                let ret = self.accept(args[0], 0);
-                refuse(out, ret)
+                out.set(&[]);
+                self.accept(args[0], 0)
             }
             Syscall::Accept4 => {
-                let ret = self.accept(args[0], args[3]);
-                refuse(out, ret)
+                out.set(&[]);
+                self.accept(args[0], args[3])
             }
-            Syscall::Close => self.close(args[0], own, out),
-            Syscall::Read => self.read(args[0], args[2], own, out),
-            Syscall::Readv => self.read_vectors(args[0], args[2], args[3], own, out),
+            Syscall::Close => self.close(args[0], own.ret, out),
+            Syscall::Read => Outcome::quiet(self.read(args[0], args[2], own.ret, out)),
+            Syscall::Readv => {
+                Outcome::quiet(self.read_vectors(args[0], args[2], args[3], own.ret, out))
+            }
             Syscall::Write => self.write(args[0], bytes, own, out),
             Syscall::Writev => self.write_vectors(args[0], args[2], bytes, own, out),
-            _ => own,
+            _ => Outcome::quiet(own.ret),
         }
     }
 

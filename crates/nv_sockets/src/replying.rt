@@ -32,7 +32,7 @@ impl Answers for Host {
     }
 
     fn answer(&mut self, call: &Call, out: &mut Bytes) -> i32 {
-        self.answer(call, out)
+        self.answer(call, out).ret
     }
 
     fn keeps(&self) -> bool {

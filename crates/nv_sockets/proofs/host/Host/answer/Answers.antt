@@ -1,8 +1,8 @@
-use Rattle.std.proofs.Common.{rules, ◌≡◌, ◌∙◌, sym, subst, ℤ, ◌≤◌, length, to_z, of_z, w32}
+use Rattle.std.proofs.Common.{rules, ◌≡◌, ◌∙◌, subst, ℤ, ◌≤◌, length, to_z, of_z, w32}
 use Rattle.nv_calls.specs.Calls.{Request, request}
 use Rattle.nv_kernel.specs.Reserved.{most_out}
 use Rattle.nv_sockets.specs.Kernel.{state_of}
-use Rattle.nv_sockets.specs.Serving.{State, unless_bad, or_own}
+use Rattle.nv_sockets.specs.Serving.{unless_bad, or_own}
 use Rattle.nv_sockets.specs.Sockets.{Net, Answer, answer}
 use Rattle.nv_sockets.proofs.Going.{serve_is}
 use Rattle.nv_sockets.proofs.Small.{answer_small}
@@ -16,21 +16,17 @@ module _ (c : goal.After-answer_beside) where
   call = request c.args.call.now
 
   abbrev end : Answer
-  end = answer c.answer_beside.new.sockets.net c.answer_beside.result c.answer_beside.new.out.bytes
+  end = answer c.answer_beside.new.sockets.net c.answer_beside.result.ret c.answer_beside.new.out.bytes
 
-  taken : or_own net c.answer-own.result c.answer-own.new.out.bytes (unless_bad net call) ≡ end
+  taken : or_own net c.answer-ret.result c.answer-ret.new.out.bytes (unless_bad net call) ≡ end
   taken =
-      let back : to_z w32 (of_z w32 c.answer-own.result) ≡ c.answer-own.result = search rules in
-      subst (λ (r : ℤ). or_own net r c.answer-own.new.out.bytes (unless_bad net call) ≡ end) back c.answer_beside.ensures.answer
+      let back : to_z w32 (of_z w32 c.answer-ret.result) ≡ c.answer-ret.result = search rules in
+      subst (λ (r : ℤ). or_own net r c.answer-ret.new.out.bytes (unless_bad net call) ≡ end) (c.own-own.ensures.ret ∙ back) c.answer_beside.ensures.answer
 
 pub returns-clause-answer : goal.returns-clause-answer
-returns-clause-answer c =
-    let back : to_z w32 (of_z w32 c.answer_beside.result) ≡ c.answer_beside.result = search rules in
-    let after : State = state_of record { devices = c.answer-own.new.self; sockets = c.answer_beside.new.sockets } in
-    serve_is (state_of c.args.self.now) (request c.args.call.now) _ _ c.answer-own.ensures.answer (taken c)
-    ∙ (λ j. record { state = after; ret = sym back j; payload = c.answer_beside.new.out.bytes })
+returns-clause-answer c = serve_is (state_of c.args.self.now) (request c.args.call.now) _ _ c.answer-ret.ensures.answer (taken c)
 
 pub returns-clause-few : goal.returns-clause-few
 returns-clause-few c =
     subst (λ (a : Answer). length a.payload ≤ most_out (request c.args.call.now)) (taken c)
-    (answer_small (net c) (call c) c.answer-own.result c.answer-own.new.out.bytes c.answer-own.ensures.few)
+    (answer_small (net c) (call c) c.answer-ret.result c.answer-ret.new.out.bytes c.answer-ret.ensures.few)

@@ -14,10 +14,10 @@ answer-requires-clause-clones c = few_clones (state_of c.args.self.now) (request
 
 pub returns-clause-answer : goal.returns-clause-answer
 returns-clause-answer c =
-    let back : to_z w32 (of_z w32 c.answer.result) ≡ c.answer.result = search rules in
+    let back : to_z w32 (of_z w32 c.answer.result.ret) ≡ c.answer.result.ret = search rules in
     let was : State = state_of c.args.self.now in
     let now : State = state_of c.answer.new.self in
     let call : Request = request c.args.call.now in
     subst (λ (r : ℤ). IsAnswer (λ setup. start_of_script setup) (host_at c.args.self.now) (host_at c.answer.new.self) call r c.answer.new.out.bytes) (sym back)
-    (host_answer c.args.self.now c.answer.new.self call c.answer.result c.answer.new.out.bytes c.answer.ensures.whole c.answer.ensures.gone
-    (is_answer was now call c.answer.result c.answer.new.out.bytes c.requires.shaped c.answer.ensures.answer))
+    (host_answer c.args.self.now c.answer.new.self call c.answer.result.ret c.answer.new.out.bytes c.answer.ensures.whole c.answer.ensures.gone
+    (is_answer was now call c.answer.result.ret c.answer.new.out.bytes c.requires.shaped c.answer.ensures.answer))
