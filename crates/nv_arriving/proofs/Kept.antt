@@ -1,5 +1,5 @@
 -- A kernel whose input arrives keeps what always holds, where more comes and where a call is served.
-use Rattle.std.proofs.Common.{◌≡◌, ◌∙◌, sym, ap, subst, refl, ℕ, zero, suc, ◌+◌, ◌≤◌, Bool, true, false, List, [], ◌∷◌, ◌++◌, length, take, drop, map, arith, length-append, length-drop}
+use Rattle.std.proofs.Common.{◌≡◌, ◌∙◌, sym, ap, subst, refl, ℕ, zero, suc, ◌+◌, ◌≤◌, Bool, true, false, not, Some, option_map, List, [], ◌∷◌, ◌++◌, length, take, drop, map, arith, length-drop}
 use Rattle.std.proofs.lemmas.List.{length-map}
 use Rattle.nv_calls.specs.Calls.{Request, Entry}
 use Rattle.nv_calls.specs.Logs.{calls_of, call_of}
@@ -11,20 +11,20 @@ use Rattle.nv_kernel.proofs.Keeping.{map_more}
 use Rattle.nv_sockets.specs.Serving.{State}
 use Rattle.nv_arrivals.specs.declared.arrival.Arrival as code
 use Rattle.nv_arrivals.specs.Arrivals.{Arrival}
-use Rattle.nv_arriving.specs.Arrivals.{in_vain}
-use Rattle.nv_arriving.specs.Arriving.{Standing, Stage, wait_of, arrive_all, taken, ready_for, serve_next, first_stage, stage_after, Satisfied, start_of_arrivals}
-use Rattle.nv_arriving.specs.Kernel.{after, Grew}
+use Rattle.nv_arriving.specs.declared.waiting.Intake.{Intake}
+use Rattle.nv_arriving.specs.declared.waiting.Want.{Want}
+use Rattle.nv_arriving.specs.Arrivals.{ends, any_ends, until, taken_for, in_vain}
+use Rattle.nv_arriving.specs.Arriving.{Standing, Stage, wants, wait_of, arrive_all, taken, ready_for, serve_next, first_stage, stage_after, Satisfied, start_of_arrivals}
+use Rattle.nv_arriving.specs.Kernel.{after, intake_of, Grew}
 use Rattle.nv_arriving.proofs.Coming.{drop_front, taken_few, with_more, after_more, satisfied_last, satisfied_more, goes_on}
 use Rattle.nv_arrivals.specs.Views.{view as arrival_of}
 use Rattle.nv_arriving.proofs.Steps.{drop_map, take_map}
+use Rattle.nv_arriving.proofs.Taken.{not_is}
 use Rattle.nv_arriving.specs.Timing.{until_of}
 use Rattle.nv_arriving.proofs.LaterLaws.{vain_state, by_served, by_clones}
 use Rattle.nv_arriving.proofs.Sides.{crew_still, served_still}
 
 -- ---- where more comes
-
-pub few_more : (used : ℕ) (before now : List Arrival) → used ≤ length before → Grew before now → used ≤ length now
-few_more used before now h g = omega (arith, h, ap (λ z. length z) g, length-append before (after before now))
 
 module _ (setup : Setup) (before now : List Arrival) (log : List Entry) where
   goes_by : (over : Bool) → (over ≡ false → Satisfied (first_stage setup before) (calls_of log)) → (over ≡ true → now ≡ before) → Grew before now
@@ -116,12 +116,26 @@ taken_inside g c used came h e = omega (arith, h, taken_few (wait_of g.here c) g
 
 -- ---- which of those that came the call takes in
 
-pub count_is_taken : (s : Standing) (c : Request) (came rest : List code.Arrival) (used count : ℕ) → rest ≡ drop used came → count ≡ taken record { here = s; rest = map arrival_of rest } c
-    → count ≡ taken record { here = s; rest = drop used (map arrival_of came) } c
-count_is_taken s c came rest used count r n = n ∙ ap (λ z. taken record { here = s; rest = z } c) (ap (map arrival_of) r ∙ drop_map came used)
+-- by what the call waits for
+pub intake_is : (s : Standing) (c : Request) (want : Want) (xs : List Arrival) (count : ℕ) (vain : Bool)
+    → wants s c ≡ Some want → count ≡ until (ends s c want) xs → vain ≡ not (any_ends (ends s c want) xs)
+    → record { count = count; vain = vain } ≡ intake_of record { here = s; rest = xs } c
+intake_is s c want xs count vain e n v =
+    let o : Some (ends s c want) ≡ wait_of s c = ap (option_map (ends s c)) (sym e) in
+    let taken_is : count ≡ taken_for (wait_of s c) xs = n ∙ ap (λ z. taken_for z xs) o in
+    let vain_is : vain ≡ in_vain (wait_of s c) xs = v ∙ (not_is (any_ends (ends s c want) xs) ∙ ap (λ z. in_vain z xs) o) in
+    λ i. record { count = taken_is i; vain = vain_is i }
 
-pub first_is : (s : Standing) (c : Request) (came rest first : List code.Arrival) (used count : ℕ) → rest ≡ drop used came → count ≡ taken record { here = s; rest = map arrival_of rest } c → first ≡ take count rest
+-- no more than came
+pub intake_inside : (s : Standing) (c : Request) (came : List code.Arrival) (used : ℕ) (found : Intake) → used ≤ length came
+    → found ≡ intake_of record { here = s; rest = drop used (map arrival_of came) } c → used + found.count ≤ length came
+intake_inside s c came used found few e =
+    let all = taken_inside record { here = s; rest = drop used (map arrival_of came) } c used (map arrival_of came)
+    (omega (arith, few, length-map came arrival_of)) refl in
+    omega (arith, all, ap (λ (z : Intake). z.count) e, length-map came arrival_of)
+
+pub first_is : (s : Standing) (c : Request) (came rest first : List code.Arrival) (used : ℕ) (found : Intake) → rest ≡ drop used came
+    → found ≡ intake_of record { here = s; rest = drop used (map arrival_of came) } c → first ≡ take found.count rest
     → map arrival_of first ≡ take (taken record { here = s; rest = drop used (map arrival_of came) } c) (drop used (map arrival_of came))
-first_is s c came rest first used count r n f =
-    ap (map arrival_of) f ∙ (take_map rest count
-    ∙ (λ i. take (count_is_taken s c came rest used count r n i) ((ap (map arrival_of) r ∙ drop_map came used) i)))
+first_is s c came rest first used found r e f =
+    ap (map arrival_of) f ∙ (take_map rest found.count ∙ (λ i. take (e i).count ((ap (map arrival_of) r ∙ drop_map came used) i)))

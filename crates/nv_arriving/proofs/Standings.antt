@@ -16,6 +16,7 @@ use Rattle.nv_arrivals.specs.Doings.{Said, Doing, Takes, Says, handing}
 use Rattle.nv_arriving.specs.Arrivals.{in_vain}
 use Rattle.nv_arriving.specs.Arriving.{Standing, Stage, wait_of, arrive_all, taken, ready_for, Reached, reply_by, serve_by, answer_next, serve_next, first_stage, stage_after, Satisfied, start_of_arrivals}
 use Rattle.nv_arriving.specs.declared.timing.Until.{Until}
+use Rattle.nv_arriving.specs.declared.waiting.Intake.{Intake}
 use Rattle.nv_arriving.specs.Timing.{until_of}
 use Rattle.nv_arriving.specs.Doings.{said}
 use Rattle.nv_arriving.specs.Kernel.{Coming, KeepsOn, after, Grew}
@@ -58,14 +59,14 @@ module _ {O : Type 0} (did : O → O → List Doing → Type 0) (is_over : O →
 
   -- ---- where more comes
 
-  module _ (begun old new : O) (before now : List Arrival) (s : Standing) (used : ℕ) (over over' late keeps : Bool) (room room' : Room)
+  module _ (begun old new : O) (before now : List Arrival) (found found' : Intake) (s : Standing) (used : ℕ) (over over' late keeps : Bool) (room room' : Room)
       (few : used ≤ length before) (was : over' ≡ false → over ≡ false) (same : over ≡ true → now ≡ before) (grew : Grew before now) (adds : Adds did old new (map Takes (after before now)))
       (ended : (over ≡ true → is_over old) → over' ≡ true → is_over new) where
     abbrev earlier : Coming O
-    earlier = record { stage = record { here = s; rest = drop used before }; begun = begun; outside = old; came = before; late = late; over = over; keeps = keeps; room = room }
+    earlier = record { stage = record { here = s; rest = drop used before }; begun = begun; outside = old; came = before; intake = found; late = late; over = over; keeps = keeps; room = room }
 
     abbrev later : Coming O
-    later = record { stage = record { here = s; rest = drop used now }; begun = begun; outside = new; came = now; late = late; over = over'; keeps = keeps; room = room' }
+    later = record { stage = record { here = s; rest = drop used now }; begun = begun; outside = new; came = now; intake = found'; late = late; over = over'; keeps = keeps; room = room' }
 
     pub stands_heard : (setup : Setup) (log : List Entry) → StandsAt did is_over earlier setup log → StandsAt did is_over later setup log
     stands_heard setup log k = record {

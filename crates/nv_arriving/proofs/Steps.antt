@@ -1,7 +1,7 @@
 -- One arrival after another, as loops go.
 use Rattle.std.proofs.Common.{◌≡◌, ◌∙◌, sym, ap, refl, ℕ, zero, suc, ◌+◌, ◌<◌, ◌≤◌, Bool, true, false, ◌||◌, List, [], ◌∷◌, ◌++◌, length, take, drop, map, Some, None, arith}
 use Rattle.std.specs.Prelude.{slice_index_or, if◌then◌else◌}
-use Rattle.std.specs.List.{list_any, position_from}
+use Rattle.std.specs.List.{position_from}
 use Rattle.std.proofs.lemmas.Option.{same_Some}
 use Rattle.nv_kernel.proofs.Keeping.{map_more}
 use Rattle.nv_arrivals.specs.declared.arrival.Arrival.{Arrival}
@@ -38,10 +38,6 @@ rest_step xs i x h e = ap (map arrival_of) (drop_suc xs i x h e) ∙ ap (λ n. a
 pub whole : (xs : List Arrival) (i : ℕ) → length xs ≤ i → map arrival_of (take i xs) ≡ map arrival_of xs
 whole xs i h = ap (map arrival_of) (take_over xs i h)
 
-pub any_is : (w : spec.Arrival → Bool) (xs : List Arrival) → list_any (λ (a : Arrival). w (arrival_of a)) xs ≡ any_ends w (map arrival_of xs)
-any_is w [] = refl
-any_is w (x ∷ xs) = ap (λ b. w (arrival_of x) || b) (any_is w xs)
-
 pub drop_map : (xs : List Arrival) (n : ℕ) → map arrival_of (drop n xs) ≡ drop n (map arrival_of xs)
 drop_map xs zero = refl
 drop_map [] (suc n) = refl
@@ -70,3 +66,24 @@ until_all w (x ∷ xs) n h = by (w (arrival_of x)) refl h (until_all w xs (n + 1
       → until w (arrival_of x ∷ map arrival_of xs) ≡ suc (length xs)
   by true e k next = cc
   by false e k next = ap (λ (b : Bool). if b then 1 else suc (until w (map arrival_of xs))) e ∙ ap suc (next k)
+
+-- some of them ends the wait, where the first that does has a place
+pub any_at : (w : spec.Arrival → Bool) (xs : List Arrival) (n place : ℕ) → position_from (λ (a : Arrival). w (arrival_of a)) n xs ≡ Some place
+    → any_ends w (map arrival_of xs) ≡ true
+any_at w [] n place h = cc
+any_at w (x ∷ xs) n place h = by (w (arrival_of x)) refl h (any_at w xs (n + 1) place) where
+  by : (b : Bool) → w (arrival_of x) ≡ b → (if b then Some n else position_from (λ (a : Arrival). w (arrival_of a)) (n + 1) xs) ≡ Some place
+      → (position_from (λ (a : Arrival). w (arrival_of a)) (n + 1) xs ≡ Some place → any_ends w (map arrival_of xs) ≡ true)
+      → any_ends w (arrival_of x ∷ map arrival_of xs) ≡ true
+  by true e k next = ap (λ (b : Bool). b || any_ends w (map arrival_of xs)) e
+  by false e k next = ap (λ (b : Bool). b || any_ends w (map arrival_of xs)) e ∙ next k
+
+pub any_all : (w : spec.Arrival → Bool) (xs : List Arrival) (n : ℕ) → position_from (λ (a : Arrival). w (arrival_of a)) n xs ≡ None
+    → any_ends w (map arrival_of xs) ≡ false
+any_all w [] n h = refl
+any_all w (x ∷ xs) n h = by (w (arrival_of x)) refl h (any_all w xs (n + 1)) where
+  by : (b : Bool) → w (arrival_of x) ≡ b → (if b then Some n else position_from (λ (a : Arrival). w (arrival_of a)) (n + 1) xs) ≡ None
+      → (position_from (λ (a : Arrival). w (arrival_of a)) (n + 1) xs ≡ None → any_ends w (map arrival_of xs) ≡ false)
+      → any_ends w (arrival_of x ∷ map arrival_of xs) ≡ false
+  by true e k next = cc
+  by false e k next = ap (λ (b : Bool). b || any_ends w (map arrival_of xs)) e ∙ next k

@@ -1,10 +1,10 @@
 -- How many arrivals a call takes in, by those that were looked at; and what grows.
-use Rattle.std.proofs.Common.{◌≡◌, ◌∙◌, sym, ap, refl, ℕ, zero, suc, ◌+◌, ◌≤◌, Bool, true, false, ◌||◌, List, [], ◌∷◌, ◌++◌, length, drop, map, Some, arith, append-nil, append_assoc, length-append}
+use Rattle.std.proofs.Common.{◌≡◌, ◌∙◌, sym, ap, refl, ℕ, zero, suc, ◌+◌, ◌≤◌, Bool, true, false, not, ◌||◌, List, [], ◌∷◌, ◌++◌, length, drop, map, arith, append-nil, append_assoc, length-append}
 use Rattle.std.specs.Prelude.{if◌then◌else◌}
 use Rattle.nv_kernel.proofs.Keeping.{map_more}
 use Rattle.nv_arrivals.specs.Arrivals.{Arrival}
 use Rattle.nv_arrivals.specs.Doings.{Takes}
-use Rattle.nv_arriving.specs.Arrivals.{any_ends, until, in_vain}
+use Rattle.nv_arriving.specs.Arrivals.{any_ends, until}
 use Rattle.nv_arriving.specs.Kernel.{after, Grew}
 use Rattle.nv_arriving.proofs.Coming.{drop_front}
 
@@ -20,13 +20,6 @@ pub any_last : (w : Arrival → Bool) (xs : List Arrival) (a : Arrival) → w a 
 any_last w [] a h = ap (λ (b : Bool). b || false) h
 any_last w (x ∷ xs) a h = by (w x) (any_last w xs a h) where
   by : (b : Bool) → any_ends w (xs ++ a ∷ []) ≡ true → (b || any_ends w (xs ++ a ∷ [])) ≡ true
-  by true k = refl
-  by false k = k
-
-pub any_back : (w : Arrival → Bool) (xs ys : List Arrival) → any_ends w ys ≡ true → any_ends w (xs ++ ys) ≡ true
-any_back w [] ys h = h
-any_back w (x ∷ xs) ys h = by (w x) (any_back w xs ys h) where
-  by : (b : Bool) → any_ends w (xs ++ ys) ≡ true → (b || any_ends w (xs ++ ys)) ≡ true
   by true k = refl
   by false k = k
 
@@ -64,16 +57,36 @@ after_more before now more h = ap (λ z. drop (length before) (z ++ more)) h ∙
 pub grew_still : {A : Type 0} (before now last : List A) → Grew before now → last ≡ now → Grew before last
 grew_still before now last h e = grew_by before last (after before now) (e ∙ h)
 
--- what a call waits for was heard
-pub learned : (w : Arrival → Bool) (used : ℕ) (before now : List Arrival) → used ≤ length before → Grew before now → any_ends w (after before now) ≡ true → any_ends w (drop used now) ≡ true
-learned w used before now h g e =
-    ap (λ z. any_ends w (drop used z)) g ∙ (ap (any_ends w) (drop_front used before (after before now) h) ∙ any_back w (drop used before) (after before now) e)
+-- what was heard, where nothing before it ends the wait
+heard_is : (used : ℕ) (before now : List Arrival) → used ≤ length before → Grew before now → drop used now ≡ drop used before ++ after before now
+heard_is used before now h g = ap (drop used) g ∙ drop_front used before (after before now) h
 
-pub not_waits : (w : Arrival → Bool) (xs : List Arrival) → any_ends w xs ≡ true → in_vain (Some w) xs ≡ false
-not_waits w xs h = ap (λ (b : Bool). if b then false else true) h
+pub heard_any : (w : Arrival → Bool) (used : ℕ) (before now : List Arrival) → used ≤ length before → Grew before now → any_ends w (drop used before) ≡ false
+    → any_ends w (drop used now) ≡ any_ends w (after before now)
+heard_any w used before now h g none = ap (any_ends w) (heard_is used before now h g) ∙ any_none w (drop used before) (after before now) none
 
-pub waits_on : (w : Arrival → Bool) (xs : List Arrival) → any_ends w xs ≡ false → in_vain (Some w) xs ≡ false → ⊥
-waits_on w xs h k = let e = sym (ap (λ (b : Bool). if b then false else true) h) ∙ k in cc
+pub heard_until : (w : Arrival → Bool) (used : ℕ) (before now : List Arrival) → used ≤ length before → Grew before now → any_ends w (drop used before) ≡ false
+    → until w (after before now) ≡ length (after before now) → until w (drop used now) ≡ length (drop used now)
+heard_until w used before now h g none all =
+    let e = heard_is used before now h g in
+    ap (until w) e ∙ (until_none w (drop used before) (after before now) none ∙ (ap (λ (n : ℕ). length (drop used before) + n) all
+    ∙ (sym (length-append (drop used before) (after before now)) ∙ ap (λ z. length z) (sym e))))
+
+pub not_is : (b : Bool) → not b ≡ (if b then false else true)
+not_is true = refl
+not_is false = refl
+
+pub not_back : (b : Bool) → not b ≡ true → b ≡ false
+not_back true h = cc
+not_back false h = refl
+
+pub is_back : (b : Bool) → not b ≡ false → b ≡ true
+is_back true h = refl
+is_back false h = cc
+
+pub twice_not : (b c : Bool) → c ≡ not b → b ≡ not c
+twice_not true c h = sym (ap not h)
+twice_not false c h = sym (ap not h)
 
 -- what was heard, with one more
 pub takes_more : (before now : List Arrival) (a : Arrival) → Grew before now → map Takes (after before now) ++ Takes a ∷ [] ≡ map Takes (after before (now ++ a ∷ []))

@@ -7,6 +7,7 @@ use Rattle.nv_sockets.specs.Reserved.{CanSend}
 use Rattle.nv_arrivals.specs.Arrivals.{Arrival}
 use Rattle.nv_arriving.specs.Arrivals.{in_vain}
 use Rattle.nv_arriving.specs.Arriving.{Stage, wait_of, taken}
+use Rattle.nv_arriving.specs.declared.waiting.Intake.{Intake}
 use Rattle.nv_arriving.specs.Reserved.{Room, CanTakeIn, IsKept}
 
 -- what a kernel is made over: what the script gives, and what the outside told then
@@ -14,13 +15,19 @@ pub record Begun (T : Type 0) : Type 0 where
   pub setup : Setup
   pub told : T
 
--- What the kernel holds and what has come and isn't taken in yet, the outside as the kernel was made and as it is, all that has come, whether something of it was heard
--- before its call was served or was more than that took in, whether nothing more comes, whether what is said is kept, and the files and the sockets with their memory.
+-- how many arrivals a call takes in at a stage, and whether it waits in vain there
+abbrev pub intake_of : Stage → Request → Intake
+intake_of g c = record { count = taken g c; vain = in_vain (wait_of g.here c) g.rest }
+
+-- What the kernel holds and what has come and isn't taken in yet, the outside as the kernel was made and as it is, all that has come, what was last found that
+-- a call takes in, whether something of what came was heard before its call was served or was more than that took in, whether nothing more comes, whether what
+-- is said is kept, and the files and the sockets with their memory.
 pub record Coming (O : Type 0) : Type 0 where
   pub stage : Stage
   pub begun : O
   pub outside : O
   pub came : List Arrival
+  pub intake : Intake
   pub late : Bool
   pub over : Bool
   pub keeps : Bool
@@ -30,8 +37,9 @@ pub record Coming (O : Type 0) : Type 0 where
 abbrev pub begun_in : {O T : Type 0} → (O → T) → Setup → Coming O → Begun T
 begun_in told setup g = record { setup = setup; told = told g.begun }
 
--- there is memory for what a call takes in and for what it leaves, and it doesn't wait in vain while more may come
+-- what a call takes in was found, there is memory for that and for what the call leaves, and it doesn't wait in vain while more may come
 pub record CanServe {O : Type 0} (g : Coming O) (c : Request) : Type 0 where
+  pub found : g.intake ≡ intake_of g.stage c
   pub takes : CanTakeIn g.room (take (taken g.stage c) g.stage.rest)
   pub answer : kernel.CanAnswer g.room.disk c
   pub sends : CanSend g.room.buffered c

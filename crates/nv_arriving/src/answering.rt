@@ -10,8 +10,7 @@ ghost use Rattle.nv_kernel.specs.Answering.{MayCome, IsAnswer};
 ghost use Rattle.nv_kernel.specs.Reserved.{most_out};
 ghost use Rattle.nv_sockets.specs.Views.{link_of, gone_of};
 ghost use Rattle.nv_arrivals.specs.Views.{view as arrival_of};
-ghost use Rattle.nv_arriving.specs.Arrivals.{in_vain};
-ghost use Rattle.nv_arriving.specs.Arriving.{taken, wait_of, start_of_arrivals};
+ghost use Rattle.nv_arriving.specs.Arriving.{start_of_arrivals};
 ghost use Rattle.nv_arriving.specs.Kernel.{CanServe, KeepsOn, begun_in};
 ghost use Rattle.nv_arriving.specs.Reserved.{IsKept};
 ghost use Rattle.nv_arriving.specs.Standing.{StandsAt};
@@ -20,6 +19,7 @@ ghost use Rattle.nv_arriving.specs.Views.{standing_of};
 use crate::arrivals::{learn, rest};
 use crate::guests::GuestSide;
 use crate::listed::{Nothing, copies};
+use crate::waiting::Intake;
 use nv_arrivals::{Arrival, Outside};
 use nv_calls::{Bytes, Call};
 use nv_fs::FileSystem;
@@ -44,6 +44,8 @@ pub struct Guests<O: Outside> {
     came: Past<Arrival>,
     /// How many of these the guests' side has. They are let go.
     used: usize,
+    /// What the call takes in that memory was last taken for: found in `reserve`, for `answer` too.
+    intake: Intake,
     /// Something was heard for a call that was then not served, or was more than the served call took in.
     late: bool,
     /// Nothing more comes from outside.
@@ -65,6 +67,7 @@ impl<O: Outside> Model for Guests<O> {
       begun = g.begun.value;
       outside = g.outside;
       came = map arrival_of g.came.items;
+      intake = g.intake;
       late = g.late;
       over = g.over;
       keeps = g.keeps;
@@ -74,22 +77,7 @@ impl<O: Outside> Model for Guests<O> {
     ghost invariant = { λ g. (g.used ≤ length g.came.items) × (g.came.gone ≤ g.used) };
 }
 
-// How many of those that have come a call takes in.
-fn taken(side: &GuestSide, rest: &[Arrival], call: &Call) -> usize
-    ensures is { result ≡ taken (record { here = standing_of side.now; rest = map arrival_of rest.now }) (request call.now) }
-    ensures few { result ≤ length rest.now }
-{
-    side.taken_for(call, side.wants(call), rest)
-}
-
-// Whether it waits, and none of those that have come ends its wait.
-fn is_in_vain(side: &GuestSide, rest: &[Arrival], call: &Call) -> bool
-    ensures { result ≡ in_vain (wait_of (standing_of side.now) (request call.now)) (map arrival_of rest.now) }
-{
-    side.in_vain(call, side.wants(call), rest)
-}
-
-// The first of them.
+// The first of those that have come.
 fn first(rest: &[Arrival], count: usize) -> &[Arrival]
     requires { count ≤ length rest.now }
     ensures { result.now ≡ take count rest.now }
@@ -137,6 +125,7 @@ impl<O: Outside> Guests<O> {
             outside,
             came: Past::new(alloc),
             used: 0,
+            intake: Intake::nothing(),
             late: false,
             over: false,
             keeps,
@@ -197,6 +186,7 @@ impl Guests<Nothing> {
             outside,
             came,
             used: 0,
+            intake: Intake::nothing(),
             late: false,
             over: true,
             keeps: true,
@@ -236,7 +226,7 @@ impl<O: Outside + Telling + Send> Answers for Guests<O> {
         ensures came { self.old.over ≡ true → self.new.came ≡ self.old.came }
         ensures kept { KeepsOn self.old self.new }
     {
-        learn(
+        self.intake = learn(
             &mut self.outside,
             self.alloc,
             &mut self.came,
@@ -246,8 +236,7 @@ impl<O: Outside + Telling + Send> Answers for Guests<O> {
             call,
         )?;
         let rest = rest(&self.came, self.used);
-        let count = taken(&self.side, rest, call);
-        self.side.reserve(call, first(rest, count))?;
+        self.side.reserve(call, first(rest, self.intake.count))?;
         Ok(())
     }
 
@@ -267,8 +256,7 @@ impl<O: Outside + Telling + Send> Answers for Guests<O> {
         ensures gone { self.old.keeps ≡ false → self.new.room.disk.gone ≡ length self.new.room.disk.state.console }
     {
         let rest = rest(&self.came, self.used);
-        let count = taken(&self.side, rest, call);
-        let vain = is_in_vain(&self.side, rest, call);
+        let Intake { count, vain } = self.intake;
         let ret = self.side.answer(
             call,
             first(rest, count),

@@ -1,17 +1,17 @@
 // What is heard from outside.
-ghost use Rattle.std.specs.Prelude.{◌≡◌, ◌≤◌, [], true, false, IfOk, OnOk, length, map, drop};
+ghost use Rattle.std.specs.Prelude.{◌≡◌, ◌≤◌, ◌+◌, [], true, false, not, IfOk, OnOk, length, map, drop};
 ghost use Rattle.nv_arrivals.specs.Doings.{Takes};
 ghost use Rattle.nv_arrivals.specs.Views.{view as arrival_of};
 ghost use Rattle.nv_calls.specs.Calls.{request};
 ghost use Rattle.nv_arriving.specs.Arrivals.{ends, any_ends, in_vain, until};
 ghost use Rattle.nv_arriving.specs.Arriving.{wait_of};
 ghost use Rattle.nv_arriving.specs.Views.{standing_of};
-ghost use Rattle.nv_arriving.specs.Kernel.{after, Grew};
+ghost use Rattle.nv_arriving.specs.Kernel.{after, intake_of, Grew};
 ghost use Rattle.nv_arriving.specs.Telling.{Adds};
 
 use crate::guests::GuestSide;
 use crate::timing::Until;
-use crate::waiting::Want;
+use crate::waiting::{Intake, Want};
 use nv_arrivals::{Arrival, Outside};
 use nv_calls::Call;
 use nv_past::Past;
@@ -39,7 +39,7 @@ pub(crate) fn hear<O: Outside>(
 ) -> Result<bool, AllocError>
     ensures grew { Grew (map arrival_of came.old.items) (map arrival_of came.new.items) }
     ensures did { Adds O.did outside.old outside.new (map Takes (after (map arrival_of came.old.items) (map arrival_of came.new.items))) }
-    ensures ended { IfOk result (λ over. over ≡ false → any_ends (ends (standing_of side.now) (request call.now) want) (after (map arrival_of came.old.items) (map arrival_of came.new.items)) ≡ true) }
+    ensures ended { IfOk result (λ over. any_ends (ends (standing_of side.now) (request call.now) want) (after (map arrival_of came.old.items) (map arrival_of came.new.items)) ≡ not over) }
     ensures over { IfOk result (λ over. over ≡ true → O.is_over outside.new) }
     ensures gone { came.new.gone ≡ came.old.gone }
     ensures until { until (ends (standing_of side.now) (request call.now) want) (after (map arrival_of came.old.items) (map arrival_of came.new.items)) ≡ length (after (map arrival_of came.old.items) (map arrival_of came.new.items)) }
@@ -68,7 +68,7 @@ fn tell_deadline<O: Outside>(outside: &mut O, until: Until)
     }
 }
 
-/// Asks for what a call waits for, unless that has come or nothing more comes.
+/// Asks for what a call waits for, unless that has come or nothing more comes, and tells what the call takes in.
 pub(crate) fn learn<O: Outside>(
     outside: &mut O,
     alloc: Global,
@@ -77,7 +77,7 @@ pub(crate) fn learn<O: Outside>(
     over: &mut bool,
     side: &GuestSide,
     call: &Call,
-) -> Result<(), AllocError>
+) -> Result<Intake, AllocError>
     requires there { came.old.gone ≤ used }
     requires inside { used ≤ length came.old.items }
     ensures grew { Grew (map arrival_of came.old.items) (map arrival_of came.new.items) }
@@ -87,18 +87,21 @@ pub(crate) fn learn<O: Outside>(
     ensures ended { (over.old ≡ true → O.is_over outside.old) → over.new ≡ true → O.is_over outside.new }
     ensures same { over.old ≡ true → came.new.items ≡ came.old.items }
     ensures asks { in_vain (wait_of (standing_of side.now) (request call.now)) (drop used (map arrival_of came.old.items)) ≡ false → outside.new ≡ outside.old }
+    ensures intake { IfOk result (λ found. found ≡ intake_of (record { here = standing_of side.now; rest = drop used (map arrival_of came.new.items) }) (request call.now)) }
+    ensures inside { IfOk result (λ found. used + found.count ≤ length came.new.items) }
     ensures waits { OnOk result (over.new ≡ false → in_vain (wait_of (standing_of side.now) (request call.now)) (drop used (map arrival_of came.new.items)) ≡ false) }
 {
     let Some(want) = side.wants(call) else {
-        return Ok(());
+        return Ok(Intake::nothing());
     };
-    if *over {
-        return Ok(());
-    }
-    if side.any_ends(call, want, rest(came, used)) {
-        return Ok(());
+    let found = side.intake(call, want, rest(came, used));
+    if *over || !found.vain {
+        return Ok(found);
     }
     tell_deadline(outside, side.until(call));
     *over = hear(outside, alloc, came, side, call, want)?;
-    Ok(())
+    Ok(Intake {
+        count: came.len() - used,
+        vain: *over,
+    })
 }

@@ -1,7 +1,7 @@
 //! The kernel of a run whose input arrives: what comes from outside isn't known when it is made. Calls wait for it, ppoll and
 //! select for several things at once.
-//! Types: `Want`, `Until`, `NonBlocking`, `Polled`, `GuestSide`, `Guests` (what answers where input arrives), `ArrivingKernel`; `Listed`, where a script lists all that comes, and
-//! `ScriptedKernel` over it.
+//! Types: `Want`, `Intake`, `Until`, `NonBlocking`, `Polled`, `GuestSide`, `Guests` (what answers where input arrives),
+//! `ArrivingKernel`; `Listed`, where a script lists all that comes, and `ScriptedKernel` over it.
 //! Proved: it answers by its definition, though it takes from outside in the middle of a run; what comes later changes
 //! nothing of what was served; where nothing comes, in runs without the later calls, it is the kernel of scripts.
 #![tactic(auto)]
@@ -32,4 +32,4 @@ pub use nonblocking::NonBlocking;
 pub use polled::Polled;
 pub use scripted::Listed;
 pub use timing::Until;
-pub use waiting::Want;
+pub use waiting::{Intake, Want};

@@ -1,8 +1,8 @@
 // What calls wait for, and how much of what has come they take in.
-ghost use Rattle.std.specs.Prelude.{◌≡◌, ◌≤◌, ◌<◌, length, map, option_map, IfSome};
-ghost use Rattle.std.specs.List.{list_any, position_from};
+ghost use Rattle.std.specs.Prelude.{◌≡◌, ◌<◌, false, length, map, not, IfSome};
+ghost use Rattle.std.specs.List.{position_from};
 ghost use Rattle.nv_calls.specs.Calls.{request};
-ghost use Rattle.nv_arriving.specs.Arrivals.{ends, any_ends, until, taken_for, in_vain};
+ghost use Rattle.nv_arriving.specs.Arrivals.{ends, any_ends, until};
 ghost use Rattle.nv_arrivals.specs.Views.{view as arrival_of};
 ghost use Rattle.nv_arriving.specs.Views.{standing_of};
 
@@ -24,6 +24,27 @@ pub enum Want {
     Time(u32, u32),
     /// That a descriptor that it looks at is ready, or that its time has come.
     Ready,
+}
+
+/// What a call takes in of the arrivals that have come.
+#[derive(Clone, Copy)]
+pub struct Intake {
+    /// How many, the first ones: those up to and with the one that ends its wait, or all.
+    pub count: usize,
+    /// The call waits, and none of them ends its wait.
+    pub vain: bool,
+}
+
+impl Intake {
+    /// A call that doesn't wait takes in nothing.
+    pub(crate) fn nothing() -> Intake
+        ensures { result ≡ record { count = 0; vain = false } }
+    {
+        Intake {
+            count: 0,
+            vain: false,
+        }
+    }
 }
 
 impl GuestSide {
@@ -59,21 +80,6 @@ impl GuestSide {
         }
     }
 
-    fn some_ends(&self, call: &Call, want: Want, arrivals: &[Arrival]) -> bool
-        ensures { result ≡ list_any (λ a. ends (standing_of self.now) (request call.now) want (arrival_of a)) arrivals.now }
-    {
-        arrivals
-            .iter()
-            .any(|arrival| self.ends(call, want, arrival))
-    }
-
-    /// Whether some of them ends the wait.
-    pub(crate) fn any_ends(&self, call: &Call, want: Want, arrivals: &[Arrival]) -> bool
-        ensures { result ≡ any_ends (ends (standing_of self.now) (request call.now) want) (map arrival_of arrivals.now) }
-    {
-        self.some_ends(call, want, arrivals)
-    }
-
     // The place of the first that ends the wait.
     fn first_end(&self, call: &Call, want: Want, arrivals: &[Arrival]) -> Option<usize>
         ensures is { result ≡ position_from (λ a. ends (standing_of self.now) (request call.now) want (arrival_of a)) 0 arrivals.now }
@@ -84,35 +90,20 @@ impl GuestSide {
             .position(|arrival| self.ends(call, want, arrival))
     }
 
-    // How many come up to and with the first that ends the wait; all, where none does.
-    fn count_until(&self, call: &Call, want: Want, arrivals: &[Arrival]) -> usize
-        ensures is { result ≡ until (ends (standing_of self.now) (request call.now) want) (map arrival_of arrivals.now) }
-        ensures few { result ≤ length arrivals.now }
+    /// What a call takes in that waits for this, where these have come.
+    pub(crate) fn intake(&self, call: &Call, want: Want, arrivals: &[Arrival]) -> Intake
+        ensures count { result.count ≡ until (ends (standing_of self.now) (request call.now) want) (map arrival_of arrivals.now) }
+        ensures vain { result.vain ≡ not (any_ends (ends (standing_of self.now) (request call.now) want) (map arrival_of arrivals.now)) }
     {
         match self.first_end(call, want, arrivals) {
-            Some(place) => place + 1,
-            None => arrivals.len(),
-        }
-    }
-
-    /// How many a call takes in that waits for this, or doesn't wait.
-    pub(crate) fn taken_for(&self, call: &Call, want: Option<Want>, arrivals: &[Arrival]) -> usize
-        ensures is { result ≡ taken_for (option_map (ends (standing_of self.now) (request call.now)) want) (map arrival_of arrivals.now) }
-        ensures few { result ≤ length arrivals.now }
-    {
-        match want {
-            Some(want) => self.count_until(call, want, arrivals),
-            None => 0,
-        }
-    }
-
-    /// Whether it waits, and none of them ends the wait.
-    pub(crate) fn in_vain(&self, call: &Call, want: Option<Want>, arrivals: &[Arrival]) -> bool
-        ensures { result ≡ in_vain (option_map (ends (standing_of self.now) (request call.now)) want) (map arrival_of arrivals.now) }
-    {
-        match want {
-            Some(want) => !self.any_ends(call, want, arrivals),
-            None => false,
+            Some(place) => Intake {
+                count: place + 1,
+                vain: false,
+            },
+            None => Intake {
+                count: arrivals.len(),
+                vain: true,
+            },
         }
     }
 }

@@ -62,6 +62,9 @@ returns-in_default-clause-did g c =
 pub returns-in_default-clause-until : goal.returns-in_default-clause-until
 returns-in_default-clause-until g c = heard (ends (standing_of c.args.side.now) (request c.args.call.now) c.args.want) _ _ _ (ap (map arrival_of) c.reserve.ensures.items) c.loop.invariant.none
 
+pub returns-in_default-clause-ended : goal.returns-in_default-clause-ended
+returns-in_default-clause-ended g c = ap (λ z. any_ends (ends (standing_of c.args.side.now) (request c.args.call.now) c.args.want) (after (map arrival_of c.args.came.now.items) z)) (ap (map arrival_of) c.reserve.ensures.items) ∙ c.loop.invariant.none
+
 module _ (g : Over) (c : goal.Then-last g) where
   all : map arrival_of c.push.new.self.items ≡ map arrival_of c.loop.came.items ++ arrival_of c.in-Some.arrival ∷ []
   all = ap (map arrival_of) c.push.ensures.items ∙ (map_more arrival_of c.reserve.new.self.items c.in-Some.arrival ∙ ap (λ z. map arrival_of z ++ arrival_of c.in-Some.arrival ∷ []) c.reserve.ensures.items)
@@ -84,7 +87,7 @@ returns-then-last-clause-until g c =
     ap (until (ends (standing_of c.args.side.now) (request c.args.call.now) c.args.want)) is ∙ (until_last (ends (standing_of c.args.side.now) (request c.args.call.now) c.args.want) (after before now) (arrival_of c.in-Some.arrival) c.loop.invariant.none ∙ ap (λ z. length z) (sym is))
 
 pub returns-then-last-clause-ended : goal.returns-then-last-clause-ended
-returns-then-last-clause-ended g c = λ _.
+returns-then-last-clause-ended g c =
     let before : List Arrival = map arrival_of c.args.came.now.items in
     let now : List Arrival = map arrival_of c.loop.came.items in
     ap (λ z. any_ends (ends (standing_of c.args.side.now) (request c.args.call.now) c.args.want) (after before z)) (all g c)

@@ -1,5 +1,5 @@
 use Rattle.std.proofs.Common.{rules, to_z, of_z, w32, ℤ, ◌≡◌, ◌∙◌, sym, ap, subst, refl, false, ◌+◌, ◌<◌, ◌≤◌, [], List, length, map, take, drop, option_map, arith}
-use Rattle.std.proofs.lemmas.List.{length-map, length-take}
+use Rattle.std.proofs.lemmas.List.{length-map, length-take, length-drop}
 use Rattle.nv_calls.specs.Calls.{Request, request}
 use Rattle.nv_kernel.specs.Answering.{IsAnswer}
 use Rattle.nv_arrivals.specs.declared.arrival.Arrival as code
@@ -11,30 +11,44 @@ use Rattle.nv_arriving.specs.Arriving.{Stage, wait_of, taken, ready_for, arrive_
 use Rattle.nv_arriving.specs.Arrivals.{ends}
 use Rattle.nv_arriving.specs.Timing.{until_of}
 use Rattle.nv_arriving.specs.Doings.{said}
-use Rattle.nv_arriving.specs.Kernel.{Coming}
+use Rattle.nv_arriving.specs.declared.waiting.Intake.{Intake}
+use Rattle.nv_arriving.specs.Kernel.{Coming, intake_of}
 use Rattle.nv_arriving.specs.Reserved.{CanTakeIn}
 use Rattle.nv_arriving.specs.Standing.{StandsAt}
 use Rattle.nv_arriving.specs.Telling.{Adds}
 use Rattle.nv_arriving.specs.Views.{standing_of, room_of}
-use Rattle.nv_arriving.proofs.Steps.{drop_map}
-use Rattle.nv_arriving.proofs.Kept.{drop_more, taken_inside, count_is_taken, first_is}
+use Rattle.nv_arriving.proofs.Kept.{drop_more, intake_inside, first_is}
 use Rattle.nv_arriving.proofs.Standings.{few_served, few_clones, is_answer}
 use Rattle.nv_arriving.proofs.Taken.{drop_past}
 use Rattle.nv_arriving.proofs.answering.GuestsAnswers.answer.Given.{Over}
 use Rattle.nv_arriving.proofs.answering.GuestsAnswers.answer.Goals.{After-pass}
 use Rattle.nv_arriving.proofs.answering.GuestsAnswers.answer.Goals as goal
 
+pub first-requires : goal.first-requires
+first-requires g c =
+    let call : Request = request c.args.call.now in
+    let found : c.self.inside.intake ≡ intake_of record { here = standing_of c.self.inside.side; rest = drop c.self.inside.used (map arrival_of c.self.inside.came.items) } call
+    = subst (λ (k : Coming g.row.O.Denot). k.intake ≡ intake_of k.stage call) (sym c.self.view_is) c.requires.ready.found in
+    let inside = intake_inside (standing_of c.self.inside.side) call c.self.inside.came.items c.self.inside.used c.self.inside.intake c.self.invariant.0 found in
+    omega (arith, inside, ap length c.rest-rest.ensures.is, length-drop c.self.inside.used c.self.inside.came.items)
+
 pub answer-ret-requires-clause-takes : goal.answer-ret-requires-clause-takes
 answer-ret-requires-clause-takes g c =
     let call : Request = request c.args.call.now in
-    let first = first_is (standing_of c.self.inside.side) call c.self.inside.came.items c.rest-rest.result.now c.first.result.now c.self.inside.used c.taken-count.result c.rest-rest.ensures.is c.taken-count.ensures.is c.first.ensures in
+    let found : c.self.inside.intake ≡ intake_of record { here = standing_of c.self.inside.side; rest = drop c.self.inside.used (map arrival_of c.self.inside.came.items) } call
+    = subst (λ (k : Coming g.row.O.Denot). k.intake ≡ intake_of k.stage call) (sym c.self.view_is) c.requires.ready.found in
+    let first = first_is (standing_of c.self.inside.side) call c.self.inside.came.items c.rest-rest.result.now c.first.result.now c.self.inside.used c.self.inside.intake c.rest-rest.ensures.is found c.first.ensures in
     subst (CanTakeIn (room_of c.self.inside.side)) (sym first)
     (subst (λ (k : Coming g.row.O.Denot). CanTakeIn k.room (take (taken k.stage call) k.stage.rest)) (sym c.self.view_is) c.requires.ready.takes)
 
 pub answer-ret-requires-clause-waits : goal.answer-ret-requires-clause-waits
 answer-ret-requires-clause-waits g c = λ e.
-    let none = ap (λ o. taken_for (option_map (ends (standing_of c.self.inside.side) (request c.args.call.now)) o) (map arrival_of c.rest-rest.result.now)) e in
-    omega (arith, ap length c.first.ensures, length-take c.taken-count.result c.rest-rest.result.now, c.taken-count.ensures.is, none)
+    let call : Request = request c.args.call.now in
+    let left : List Arrival = drop c.self.inside.used (map arrival_of c.self.inside.came.items) in
+    let found : c.self.inside.intake ≡ intake_of record { here = standing_of c.self.inside.side; rest = left } call
+    = subst (λ (k : Coming g.row.O.Denot). k.intake ≡ intake_of k.stage call) (sym c.self.view_is) c.requires.ready.found in
+    let none = ap (λ o. taken_for (option_map (ends (standing_of c.self.inside.side) call) o) left) e in
+    omega (arith, ap length c.first.ensures, length-take c.self.inside.intake.count c.rest-rest.result.now, ap (λ (z : Intake). z.count) found, none)
 
 pub answer-ret-requires-clause-few : goal.answer-ret-requires-clause-few
 answer-ret-requires-clause-few g c =
@@ -56,14 +70,18 @@ module _ (g : Over) (c : After-pass g) where
 
   -- as it was, and as the call leaves it
   abbrev was : Coming g.row.O.Denot
-  was = record { stage = mine; begun = c.self.inside.begun.value; outside = c.self.inside.outside; came = came; late = c.self.inside.late; over = c.self.inside.over; keeps = c.self.inside.keeps; room = room_of c.self.inside.side }
+  was = record { stage = mine; begun = c.self.inside.begun.value; outside = c.self.inside.outside; came = came; intake = c.self.inside.intake; late = c.self.inside.late; over = c.self.inside.over; keeps = c.self.inside.keeps; room = room_of c.self.inside.side }
+
+  found : c.self.inside.intake ≡ intake_of mine call
+  found = subst (λ (k : Coming g.row.O.Denot). k.intake ≡ intake_of k.stage call) (sym c.self.view_is) c.requires.ready.found
 
   abbrev now_where : List code.Arrival → Coming g.row.O.Denot
   now_where came' = record {
-    stage = record { here = standing_of c.answer-ret.new.self; rest = drop (c.self.inside.used + c.taken-count.result) (map arrival_of came') };
+    stage = record { here = standing_of c.answer-ret.new.self; rest = drop (c.self.inside.used + c.self.inside.intake.count) (map arrival_of came') };
     begun = c.self.inside.begun.value;
     outside = c.answer-ret.new.outside;
     came = map arrival_of came';
+    intake = c.self.inside.intake;
     late = c.is_late-self-inside.result;
     over = c.self.inside.over;
     keeps = c.self.inside.keeps;
@@ -76,16 +94,16 @@ module _ (g : Over) (c : After-pass g) where
   abbrev left : Reached
   left = record { here = standing_of c.answer-ret.new.self; ret = c.answer-ret.result; payload = c.answer-ret.new.out.bytes }
 
-  count : c.taken-count.result ≡ taken mine call
-  count = count_is_taken mine.here call c.self.inside.came.items c.rest-rest.result.now c.self.inside.used c.taken-count.result c.rest-rest.ensures.is c.taken-count.ensures.is
+  count : c.self.inside.intake.count ≡ taken mine call
+  count = ap (λ (z : Intake). z.count) found
 
   first : map arrival_of c.first.result.now ≡ take (taken mine call) mine.rest
-  first = first_is mine.here call c.self.inside.came.items c.rest-rest.result.now c.first.result.now c.self.inside.used c.taken-count.result c.rest-rest.ensures.is c.taken-count.ensures.is c.first.ensures
+  first = first_is mine.here call c.self.inside.came.items c.rest-rest.result.now c.first.result.now c.self.inside.used c.self.inside.intake c.rest-rest.ensures.is found c.first.ensures
 
-  vain : c.is_in_vain-vain.result ≡ in_vain (wait_of mine.here call) mine.rest
-  vain = c.is_in_vain-vain.ensures ∙ ap (in_vain (wait_of mine.here call)) (ap (map arrival_of) c.rest-rest.ensures.is ∙ drop_map c.self.inside.came.items c.self.inside.used)
+  vain : c.self.inside.intake.vain ≡ in_vain (wait_of mine.here call) mine.rest
+  vain = ap (λ (z : Intake). z.vain) found
 
-  ready : unless_vain c.is_in_vain-vain.result (arrive_all mine.here (map arrival_of c.first.result.now)) ≡ ready_for mine call
+  ready : unless_vain c.self.inside.intake.vain (arrive_all mine.here (map arrival_of c.first.result.now)) ≡ ready_for mine call
   ready = λ i. unless_vain (vain i) (arrive_all mine.here (first i))
 
   answer : answer_next mine call ≡ left
@@ -94,8 +112,8 @@ module _ (g : Over) (c : After-pass g) where
   next : now.stage ≡ serve_next mine call
   next =
       let s : standing_of c.answer-ret.new.self ≡ (answer_next mine call).here = ap (λ (r : Reached). r.here) (sym answer) in
-      let r : drop (c.self.inside.used + c.taken-count.result) came ≡ drop (taken mine call) mine.rest
-      = drop_more c.self.inside.used c.taken-count.result came ∙ ap (λ n. drop n mine.rest) count in
+      let r : drop (c.self.inside.used + c.self.inside.intake.count) came ≡ drop (taken mine call) mine.rest
+      = drop_more c.self.inside.used c.self.inside.intake.count came ∙ ap (λ n. drop n mine.rest) count in
       λ j. record { here = s j; rest = r j }
 
   says : Adds g.O.Outside.did was.outside now.outside (map Says (said (ready_for mine call).state call c.answer-ret.result now.stage.here.state))
@@ -106,16 +124,13 @@ module _ (g : Over) (c : After-pass g) where
   waits = subst (λ (k : Coming g.row.O.Denot). k.over ≡ false → in_vain (wait_of k.stage.here call) k.stage.rest ≡ false) (sym c.self.view_is) c.requires.ready.waits
 
   none : now.late ≡ false → now.stage.rest ≡ []
-  none o = drop_past (c.self.inside.used + c.taken-count.result) came (omega (arith, c.is_late-self-inside.ensures.all o, length-map c.self.inside.came.items arrival_of))
+  none o = drop_past (c.self.inside.used + c.self.inside.intake.count) came (omega (arith, c.is_late-self-inside.ensures.all o, length-map c.self.inside.came.items arrival_of))
 
   is : IsAnswer (λ setup. start_of_arrivals setup came) (StandsAt g.O.Outside.did g.O.Outside.is_over was) (StandsAt g.O.Outside.did g.O.Outside.is_over now) call c.answer-ret.result c.answer-ret.new.out.bytes
   is = is_answer g.O.Outside.did g.O.Outside.is_over was now call c.answer-ret.result c.answer-ret.new.out.bytes c.requires.shaped refl refl refl answer next waits says c.answer-ret.ensures.stays c.is_late-self-inside.ensures.still none
 
-  inside : c.self.inside.used + c.taken-count.result ≤ length c.self.inside.came.items
-  inside =
-      let few : c.self.inside.used ≤ length came = omega (arith, c.self.invariant.0, length-map c.self.inside.came.items arrival_of) in
-      let all = taken_inside mine call c.self.inside.used came few refl in
-      omega (arith, all, count, length-map c.self.inside.came.items arrival_of)
+  inside : c.self.inside.used + c.self.inside.intake.count ≤ length c.self.inside.came.items
+  inside = intake_inside mine.here call c.self.inside.came.items c.self.inside.used c.self.inside.intake c.self.invariant.0 found
 
   -- the same, whatever is let go
   kept : IsAnswer (λ setup. start_of_arrivals setup came) (StandsAt g.O.Outside.did g.O.Outside.is_over was) (StandsAt g.O.Outside.did g.O.Outside.is_over (now_where c.pass.new.came.items)) call c.answer-ret.result c.answer-ret.new.out.bytes
@@ -136,8 +151,16 @@ returns-clause-known g c = λ setup. ap (λ (z : List code.Arrival). start_of_ar
 pub returns-clause-came : goal.returns-clause-came
 returns-clause-came g c = ap (map arrival_of) c.pass.ensures.items ∙ ap (λ (k : Coming g.row.O.Denot). k.came) c.self.view_is
 
+pub overflow_add-self : goal.overflow_add-self
+overflow_add-self g c =
+    let call : Request = request c.args.call.now in
+    let found : c.self.inside.intake ≡ intake_of record { here = standing_of c.self.inside.side; rest = drop c.self.inside.used (map arrival_of c.self.inside.came.items) } call
+    = subst (λ (k : Coming g.row.O.Denot). k.intake ≡ intake_of k.stage call) (sym c.self.view_is) c.requires.ready.found in
+    let inside = intake_inside (standing_of c.self.inside.side) call c.self.inside.came.items c.self.inside.used c.self.inside.intake c.self.invariant.0 found in
+    omega (arith, inside, c.rest-rest.ensures.counted)
+
 pub invariant_of-self : goal.invariant_of-self
 invariant_of-self g c = (
-  subst (λ (z : List code.Arrival). c.self.inside.used + c.taken-count.result ≤ length z) (sym c.pass.ensures.items) (inside g (goal.at.invariant_of-self g c).After-pass),
+  subst (λ (z : List code.Arrival). c.self.inside.used + c.self.inside.intake.count ≤ length z) (sym c.pass.ensures.items) (inside g (goal.at.invariant_of-self g c).After-pass),
   c.pass.ensures.gone,
 )

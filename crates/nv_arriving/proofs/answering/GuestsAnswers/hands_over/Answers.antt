@@ -15,6 +15,7 @@ returns-clause-stands g c = λ setup log s.
       begun = c.self.inside.begun.value;
       outside = c.self.inside.outside;
       came = came;
+      intake = c.self.inside.intake;
       late = c.self.inside.late;
       over = c.self.inside.over;
       keeps = c.self.inside.keeps;
