@@ -16,10 +16,12 @@
 #include <sys/socket.h>
 #include <time.h>
 #include <unistd.h>
+#include "long_polls.h"
 
-enum { FCNTL64 = 25, SOCKET = 198, BIND = 200, LISTEN = 201, ACCEPT = 202, SETSOCKOPT = 208, ACCEPT4 = 242, CLOCK_NANOSLEEP64 = 407, PPOLL64 = 414 };
+enum { FCNTL64 = 25, SOCKET = 198, BIND = 200, LISTEN = 201, ACCEPT = 202, SETSOCKOPT = 208, ACCEPT4 = 242, CLOCK_NANOSLEEP64 = 407 };
+enum { PSELECT6_64 = 413, PPOLL64 = 414 };
 enum { LINUX_O_APPEND = 0x400, LINUX_O_NONBLOCK = 0x800, LINUX_ENOSYS = 38, LINUX_CLOCK_MONOTONIC = 1 };
-enum { MOST = 1024, WORD = 32, SET_SIZE = 8, MILLION = 1000000, BILLION = 1000000000 };
+enum { SET_SIZE = 8, MILLION = 1000000 };
 
 /* The 64 bits of the nanoseconds are two words, of which the upper one is 0. */
 struct time64 {
@@ -104,14 +106,43 @@ static void end_of_service(void)
 }
 
 /* What Linux writes on a call that a signal interrupts comes after the handler. */
+static long interrupted(long result)
+{
+    if (result == -EINTR)
+        end_of_service();
+    return answer(result);
+}
+
+/* Without a mask of signals, which is the sixth argument. */
+static long pselect6(long most, void *readable, void *writable, void *special, const void *timeout)
+{
+    register long a0 __asm__("a0") = most;
+    register void *a1 __asm__("a1") = readable;
+    register void *a2 __asm__("a2") = writable;
+    register void *a3 __asm__("a3") = special;
+    register const void *a4 __asm__("a4") = timeout;
+    register long a5 __asm__("a5") = 0;
+    register long a7 __asm__("a7") = PSELECT6_64;
+    __asm__ volatile("ecall" : "+r"(a0) : "r"(a1), "r"(a2), "r"(a3), "r"(a4), "r"(a5), "r"(a7) : "memory");
+    return a0;
+}
+
+static long select_by(struct selected *sets, const void *timeout)
+{
+    return pselect6(sets->most, sets->readable, sets->writable, sets->special, timeout);
+}
+
+static long poll_now(struct pollfd *asked, long count)
+{
+    struct time64 nothing = {0};
+    return call(PPOLL64, (long)asked, count, (long)&nothing, 0, SET_SIZE);
+}
+
 int ppoll(struct pollfd *polled, nfds_t count, const struct timespec *timeout, const sigset_t *mask)
 {
     (void)mask;
-    struct time64 time = timeout ? (struct time64){timeout->tv_sec, timeout->tv_nsec, 0} : (struct time64){0};
-    long ready = call(PPOLL64, (long)polled, count, timeout ? (long)&time : 0, 0, SET_SIZE);
-    if (ready == -EINTR)
-        end_of_service();
-    return answer(ready);
+    struct time64 time = timeout ? (struct time64){timeout->tv_sec, timeout->tv_nsec, 0} : (struct time64){0}, *given = timeout ? &time : NULL;
+    return interrupted(count > MOST_POLLED ? poll_long(polled, count, given) : call(PPOLL64, (long)polled, count, (long)given, 0, SET_SIZE));
 }
 
 int poll(struct pollfd *polled, nfds_t count, int milliseconds)
@@ -120,48 +151,10 @@ int poll(struct pollfd *polled, nfds_t count, int milliseconds)
     return ppoll(polled, count, milliseconds < 0 ? NULL : &time, NULL);
 }
 
-/* The word of a set that a descriptor is in, and its bit there. A set may be larger than this file's. */
-static uint32_t *word_of(fd_set *set, int fd)
-{
-    return (uint32_t *)set + fd / WORD;
-}
-
-static int is_in(fd_set *set, int fd)
-{
-    return set != NULL && *word_of(set, fd) >> fd % WORD & 1;
-}
-
-/* Leaves the descriptor in a set where one of these was told of it. Answers whether it is in it then. */
-static int keep(fd_set *set, const struct pollfd *polled, short wanted, short told)
-{
-    if (set == NULL || !(polled->events & wanted))
-        return 0;
-    if (polled->revents & told)
-        return 1;
-    *word_of(set, polled->fd) &= ~(1u << polled->fd % WORD);
-    return 0;
-}
-
 int select(int most, fd_set *readable, fd_set *writable, fd_set *special, struct timeval *timeout)
 {
-    struct pollfd polled[MOST];
-    int count = 0, result = 0;
-    for (int fd = 0; fd < most && fd < MOST; fd++) {
-        short events = (is_in(readable, fd) ? POLLIN : 0) | (is_in(writable, fd) ? POLLOUT : 0) | (is_in(special, fd) ? POLLPRI : 0);
-        if (events)
-            polled[count++] = (struct pollfd){fd, events, 0};
-    }
-    struct timespec time = timeout ? (struct timespec){timeout->tv_sec, timeout->tv_usec * 1000} : (struct timespec){0};
-    if (ppoll(polled, count, timeout ? &time : NULL, NULL) < 0)
-        return -1;
-    for (int i = 0; i < count; i++)
-        if (polled[i].revents & POLLNVAL) {
-            errno = EBADF;
-            return -1;
-        }
-    for (int i = 0; i < count; i++)
-        result += keep(readable, &polled[i], POLLIN, POLLIN | POLLHUP | POLLERR) + keep(writable, &polled[i], POLLOUT, POLLOUT | POLLERR) + keep(special, &polled[i], POLLPRI, POLLPRI);
-    return result;
+    struct time64 time = timeout ? (struct time64){timeout->tv_sec, timeout->tv_usec * 1000, 0} : (struct time64){0};
+    return interrupted(pselect6(most, readable, writable, special, timeout ? &time : NULL));
 }
 
 int nanosleep(const struct timespec *time, struct timespec *left)

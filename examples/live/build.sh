@@ -11,10 +11,11 @@ fi
 made=$(mktemp -d)
 trap 'rm -rf "$made"' EXIT
 status=0
-for built in keeper_1 keeper_2 keeper_3 keeper_slow loop_1 loop_2 loop_asserts; do
+for built in keeper_1 keeper_2 keeper_3 keeper_slow loop_1 loop_2 loop_asserts loop_select; do
     words=("../guests/store_${built#*_}.c")
     [ "$built" = keeper_slow ] && words=(-DSLOW=500000 ../guests/store_1.c)
     [ "$built" = loop_asserts ] && words=(-DASSERTS ../guests/store_2.c)
+    [ "$built" = loop_select ] && words=(-DSELECT -DFD_SETSIZE=1024 ../guests/store_1.c)
     ../guests/cc -s "${built%_*}.c" "${words[@]}" -o "$made/$built"
     if [ "$*" = --write ]; then
         cp "$made/$built" built

@@ -1,6 +1,6 @@
 /*
- * The service of keeper.c for many clients at once, as one writes it for Linux: one loop over poll, and calls that never wait. A client that is silent for some
- * seconds (the first argument, or 30) gets the line `late`, and is let go. SIGTERM ends the service, which then writes how many requests there were.
+ * The service of keeper.c for many clients at once, as one writes it for Linux: one loop over poll (-DSELECT: over select), and calls that never wait. A client that is
+ * silent for some seconds (the first argument, or 30) gets the line `late`, and is let go. SIGTERM ends the service, which then writes how many requests there were.
  */
 #include "../guests/store.h"
 #include <errno.h>
@@ -11,11 +11,13 @@
 #include <stdio.h>
 #include <stdlib.h>
 #include <string.h>
+#include <sys/select.h>
 #include <sys/socket.h>
 #include <time.h>
 #include <unistd.h>
 
-enum { PORT = 8080, MOST = 400, LINE = 256, ROOM = 1024 };
+/* varan has 960 sockets, of which one listens. */
+enum { PORT = 8080, MOST = 959, LINE = 256, ROOM = 512 };
 
 struct client {
     time_t since; /* its last bytes came */
@@ -159,6 +161,33 @@ static int wait_at_most(void)
     return least < 0 ? -1 : (int)least * 1000;
 }
 
+#ifdef SELECT
+static int waited(int milliseconds)
+{
+    struct timeval time = {milliseconds / 1000, milliseconds % 1000 * 1000};
+    fd_set readable, writable;
+    int most = 0;
+    FD_ZERO(&readable);
+    FD_ZERO(&writable);
+    for (int i = 0; i <= count; i++) {
+        most = polled[i].fd > most ? polled[i].fd : most;
+        if (polled[i].events & POLLIN)
+            FD_SET(polled[i].fd, &readable);
+        if (polled[i].events & POLLOUT)
+            FD_SET(polled[i].fd, &writable);
+    }
+    int ready = select(most + 1, &readable, &writable, NULL, milliseconds < 0 ? NULL : &time);
+    for (int i = 0; ready > 0 && i <= count; i++)
+        polled[i].revents = (FD_ISSET(polled[i].fd, &readable) ? POLLIN : 0) | (FD_ISSET(polled[i].fd, &writable) ? POLLOUT : 0);
+    return ready;
+}
+#else
+static int waited(int milliseconds)
+{
+    return poll(polled, 1 + count, milliseconds);
+}
+#endif
+
 static void let_silent_go(void)
 {
     for (int i = count; i >= 1; i--)
@@ -187,7 +216,7 @@ int main(int given, char **words)
     polled[0].fd = listener();
     while (!is_over) {
         polled[0].events = count < MOST ? POLLIN : 0;
-        int ready = poll(polled, 1 + count, wait_at_most());
+        int ready = waited(wait_at_most());
         if (ready < 0 && errno != EINTR)
             return 1;
         now = time(NULL);

@@ -12,6 +12,7 @@
 #include <sys/select.h>
 #include <sys/socket.h>
 #include <sys/syscall.h>
+#include "../long_polls.h"
 
 enum { FIRST_PEER = 40001, MOST_QUIET = 16 };
 
@@ -217,56 +218,56 @@ long sleep_until(long clock, long flags, const int64_t *time)
     return result == -ENOSYS ? 0 : result;
 }
 
+static long select_by(struct selected *sets, const void *timeout)
+{
+    return known(KERNEL_AMONG_OTHERS(SYS_pselect6_time64, sets->most, sets->readable, sets->writable, sets->special, timeout));
+}
+
+static long poll_now(struct pollfd *asked, long count)
+{
+    return KERNEL_AMONG_OTHERS(SYS_ppoll_time64, asked, count, &(int64_t[2]){0});
+}
+
 /* The kernel's answer; -ENOSYS where it has none. */
 static long poll_by_kernel(struct pollfd *asked, long count, const int64_t *timeout, const uint64_t *mask)
 {
     if (polls_not)
         return -ENOSYS;
-    long ready = known(KERNEL_AMONG_OTHERS(SYS_ppoll_time64, asked, count, timeout));
+    long ready = count > MOST_POLLED ? poll_long(asked, count, timeout) : known(KERNEL_AMONG_OTHERS(SYS_ppoll_time64, asked, count, timeout));
     return ready == -EINTR ? end_of_service(timeout, mask) : ready;
 }
 
-static void ask(struct pollfd *asked, long *count, long fd, const fd_set *set, short events)
+static bool has_closed(const fd_set *set, long count)
 {
-    if (!set || !FD_ISSET(fd, set))
-        return;
-    if (*count == 0 || asked[*count - 1].fd != fd)
-        asked[(*count)++] = (struct pollfd){.fd = fd};
-    asked[*count - 1].events |= events;
+    while (set && count > 0 && !(FD_ISSET(count - 1, set) && !descriptor_of(count - 1)))
+        count--;
+    return set && count > 0;
 }
 
-/* Leaves in a set the descriptors of which one of these is told. Answers how many. */
-static long keep_told(const struct pollfd *asked, long count, fd_set *set, short wanted, short told)
+static void empty(fd_set *set, long count)
 {
-    long ready = 0;
-    for (long i = 0; set && i < count; i++) {
-        if (!(asked[i].events & wanted))
-            continue;
-        if (asked[i].revents & told)
-            ready++;
-        else
-            FD_CLR(asked[i].fd, set);
+    if (set)
+        memset(set, 0, (count + WORD_BITS - 1) / WORD_BITS * sizeof(uint32_t));
+}
+
+/* The kernel's answer; -ENOSYS where it has none. What a child has closed may be open there, for its parent. */
+static long select_by_kernel(long count, fd_set *readable, fd_set *writable, fd_set *special, const int64_t *timeout, const uint64_t *mask)
+{
+    long most = count < DESCRIPTORS ? count : DESCRIPTORS;
+    if (polls_not)
+        return -ENOSYS;
+    if (is_child() && (has_closed(readable, most) || has_closed(writable, most) || has_closed(special, most)))
+        return -EBADF;
+    long ready = known(KERNEL_AMONG_OTHERS(SYS_pselect6_time64, count, readable, writable, special, timeout));
+    if (ready != -EINTR)
+        return ready;
+    ready = end_of_service(timeout, mask);
+    if (ready == 0) {
+        empty(readable, most);
+        empty(writable, most);
+        empty(special, most);
     }
     return ready;
-}
-
-static long select_by_kernel(long most, fd_set *readable, fd_set *writable, fd_set *special, const int64_t *timeout, const uint64_t *mask)
-{
-    struct pollfd asked[DESCRIPTORS];
-    long count = 0;
-    for (long fd = 0; fd < most && fd < DESCRIPTORS; fd++) {
-        ask(asked, &count, fd, readable, POLLIN);
-        ask(asked, &count, fd, writable, POLLOUT);
-        ask(asked, &count, fd, special, POLLPRI);
-    }
-    for (long i = 0; i < count; i++)
-        if (!descriptor_of(asked[i].fd))
-            return -EBADF;
-    long ready = poll_by_kernel(asked, count, timeout, mask);
-    if (ready < 0)
-        return ready;
-    return keep_told(asked, count, readable, POLLIN, POLLIN | POLLHUP | POLLERR) + keep_told(asked, count, writable, POLLOUT, POLLOUT | POLLERR) +
-           keep_told(asked, count, special, POLLPRI, POLLPRI);
 }
 
 long poll_descriptors(struct pollfd *asked, long count, const int64_t *timeout, const uint64_t *mask)
