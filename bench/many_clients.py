@@ -4,15 +4,16 @@
     bench/many_clients.py [--program PATH] [--turns N]
 
 PATH is crates/varan/out/varan where it isn't given (build it first: `rt run` in crates/varan). The service is examples/live/loop.c, one loop over poll, behind `varan-listen --idle 0`,
-with 1, 2 and 8 equal versions. Beside it are the same guest under qemu-riscv32, and varan-listen before a program that sends back what it gets (live_answers.c). All is taken in one run,
-on 127.0.0.1, each case with and without the silent ones, in N turns, 5 by default, every other one in reverse. It needs qemu-riscv32 (Debian: qemu-user) and cc, and takes two minutes.
+with 1, 2 and 8 equal versions, and the same loop over select. Beside it are the same guests under qemu-riscv32, and varan-listen before a program that sends back what it gets
+(live_answers.c). All is taken in one run, on 127.0.0.1, each case with and without the silent ones, in N turns, 5 by default, every other one in reverse. It needs qemu-riscv32 (Debian:
+qemu-user) and cc, and takes some minutes.
 
-40 clients ask, with and without 360 that ask once as they come and are silent then. It isn't 1,000 of which 900 are silent, since a poll has 408 descriptors at most and loop.c lets 400 in.
+50 clients ask, with and without 900 that ask once as they come and are silent then. It isn't 1,000 of which 900 are silent, since a guest has 960 sockets at most.
 
 - An answer: from sending a line to its answer, while each client pauses up to 0.1 seconds between an answer and its next line.
 - Answers a second: each client asks again as soon as it has its answer. The clients are one thread of this script, which bounds what qemu can show.
-- A failover: version 2 of the service leads version 1 before all 400 clients, 4 times a turn. The 40 ask at once: as it is, with a line among theirs at which the leader faults, and once
-  more, when version 1 is alone. Then all 400 ask: who has no answer is lost.
+- A failover: version 2 of the service leads version 1 before all 950 clients, 4 times a turn. The 50 ask at once: as it is, with a line among theirs at which the leader faults, and once
+  more, when version 1 is alone. Then all 950 ask: who has no answer is lost.
 
 Figures are medians of the turns, and so are ratios, each of two figures of one turn; those of failovers are medians of all. Each answer is checked, the count of the requests, and how each
 service ends. Status 1: something is otherwise, or a client is lost.
@@ -23,6 +24,7 @@ import heapq
 import os
 import pathlib
 import random
+import resource
 import select
 import signal
 import socket
@@ -38,10 +40,12 @@ BUILT = TOP / "examples/live/built"
 # The guest's port, which it has under qemu too; and the seconds after which it lets a silent client go.
 PORT, PATIENCE = 8080, 3600
 COUNTS = (1, 2, 8)
-ACTIVE, SILENT = 40, 360
+LOOPS = {"": "loop_1", ", select": "loop_select"}
+ACTIVE, SILENT = 50, 900
 # Seconds in which clients ask, with so much pause at most and with none; failovers in a turn, and how often all ask before each.
 PACED, PAUSE, AT_ONCE, FAILOVERS, BEFORE = 1.0, 0.1, 0.5, 4, 3
 SECONDS = 60
+MOST_OPEN = 4096
 ALONE, QEMU = "varan-listen alone", "qemu"
 
 
@@ -223,8 +227,9 @@ def ended(process):
 @contextlib.contextmanager
 def served(name, command, silent, folder):
     """The clients of a service, which has to end well once they have left."""
-    port = PORT if name == QEMU else free_port()
-    adapter = [] if name == QEMU else [LISTEN, "--idle", "0", f"{port}:{PORT}", "--"]
+    by_qemu = name.startswith(QEMU)
+    port = PORT if by_qemu else free_port()
+    adapter = [] if by_qemu else [LISTEN, "--idle", "0", f"{port}:{PORT}", "--"]
     with open(folder / "console", "wb") as console, open(folder / "told", "wb") as told:
         process = subprocess.Popen([*adapter, *command], cwd=folder, stdout=console, stderr=told)
     try:
@@ -235,8 +240,8 @@ def served(name, command, silent, folder):
     finally:
         status = ended(process)
     # (under qemu the signal ends the guest, whose C library has no handlers)
-    checked(status, -signal.SIGTERM if name == QEMU else 0, f"the status, {name}")
-    checked((folder / "console").read_text(), "" if name in (QEMU, ALONE) else f"{clients.requests} requests\n", f"the console, {name}")
+    checked(status, -signal.SIGTERM if by_qemu else 0, f"the status, {name}")
+    checked((folder / "console").read_text(), "" if by_qemu or name == ALONE else f"{clients.requests} requests\n", f"the console, {name}")
 
 
 def hundredth(waits, number):
@@ -335,17 +340,20 @@ def main():
     reader.add_argument("--turns", type=int, default=5)
     asked = reader.parse_args()
     begun, (taken, all_times) = time.monotonic(), processor_times()
+    # each client takes a descriptor of this script and one of varan-listen
+    resource.setrlimit(resource.RLIMIT_NOFILE, (MOST_OPEN, MOST_OPEN))
     print(f"{asked.turns} turns, load {os.getloadavg()[0]:.1f}")
     with tempfile.TemporaryDirectory() as room:
         folder = pathlib.Path(room)
         (folder / "setup").write_text(f"varan-script 5\nclock {int(time.time())} 0 0\narg {PATIENCE}\n")
         subprocess.run(["cc", "-O2", "-o", folder / "answers", TOP / "bench/live_answers.c"], check=True)
         serve = [os.path.abspath(asked.program), "serve", "--clients", "--script", folder / "setup"]
-        commands = {QEMU: ["qemu-riscv32", BUILT / "loop_1", str(PATIENCE)], ALONE: [folder / "answers"]}
+        commands = {f"{QEMU}{kind}": ["qemu-riscv32", BUILT / loop, str(PATIENCE)] for kind, loop in LOOPS.items()} | {ALONE: [folder / "answers"]}
         commands |= {f"{k} version{'s' if k > 1 else ''}": [*serve, *[BUILT / "loop_1"] * k] for k in COUNTS}
+        commands["1 version, select"] = [*serve, BUILT / LOOPS[", select"]]
         if not can_listen(PORT):
             print(f"qemu is left out: somebody listens at port {PORT}")
-            del commands[QEMU]
+            commands = {name: words for name, words in commands.items() if not name.startswith(QEMU)}
         answers(commands, asked.turns, folder)
         failovers([*serve, BUILT / "loop_2", BUILT / "loop_1"], FAILOVERS * asked.turns, folder)
     taken, all_times = (after - before for after, before in zip(processor_times(), (taken, all_times)))

@@ -1,5 +1,5 @@
 /*
- * What ppoll, fcntl, clock_nanosleep and calls that never wait answer, to be compared between varan and Linux (bench/poll_answers.py): built for 32-bit RISC-V and for
+ * What ppoll, pselect6, fcntl, clock_nanosleep and calls that never wait answer, to be compared between varan and Linux (bench/poll_answers.py): built for 32-bit RISC-V and for
  * the host. Each line that it writes has what was done and what it gave. The first argument is the port that it serves. Its client sends "abcdef" once it got a byte,
  * and no more once it got another. On its input "hello" and a newline come.
  */
@@ -8,12 +8,26 @@
 #include <stdlib.h>
 
 enum { FCNTL = 25, OPENAT = 56, CLOSE = 57, PIPE2 = 59, READ = 63, WRITE = 64, READV = 65, SOCKET = 198, BIND = 200, LISTEN = 201, ACCEPT = 202 };
-enum { ACCEPT4 = 242, CLOCK_GETTIME = 403, SLEEP = 407, PPOLL = 414 };
-enum { IN = 1, OUT = 4, SENT_ALL = 0x2000, ALL = 0x23c7, NONBLOCK = 0x800, CREATE = 0x42, APPEND = 0x400, CLOEXEC = 1, MOST = 408 };
+enum { ACCEPT4 = 242, CLOCK_GETTIME = 403, SLEEP = 407, PSELECT6 = 413, PPOLL = 414 };
+enum { IN = 1, OUT = 4, SENT_ALL = 0x2000, ALL = 0x23c7, NONBLOCK = 0x800, CREATE = 0x42, APPEND = 0x400, CLOEXEC = 1, MOST = 408, SET = 32 };
 enum { GETFD = 1, SETFD = 2, GETFL = 3, SETFL = 4, SETPIPE_SIZE = 1031 };
 
 #ifdef __riscv
 #include "../examples/guests/linux.h"
+
+/* pselect6 has a sixth argument, the mask of signals: 0, none. */
+static long pselect6(long most, void *readable, void *writable, void *special, void *time)
+{
+    register long a0 __asm__("a0") = most;
+    register void *a1 __asm__("a1") = readable;
+    register void *a2 __asm__("a2") = writable;
+    register void *a3 __asm__("a3") = special;
+    register void *a4 __asm__("a4") = time;
+    register long a5 __asm__("a5") = 0;
+    register long a7 __asm__("a7") = PSELECT6;
+    __asm__ volatile("ecall" : "+r"(a0) : "r"(a1), "r"(a2), "r"(a3), "r"(a4), "r"(a5), "r"(a7) : "memory");
+    return a0;
+}
 #else
 #include <errno.h>
 #include <sys/syscall.h>
@@ -34,6 +48,12 @@ static long host_number(long number)
 static long call(long number, long first, long second, long third, long fourth, long fifth)
 {
     long result = syscall(host_number(number), first, second, third, fourth, fifth);
+    return result < 0 ? -errno : result;
+}
+
+static long pselect6(int most, void *readable, void *writable, void *special, void *time)
+{
+    long result = syscall(SYS_pselect6, most, readable, writable, special, time, NULL);
     return result < 0 ? -errno : result;
 }
 #endif
@@ -67,7 +87,23 @@ static long poll(void *polled, long count, void *time)
     return call(PPOLL, (long)polled, count, (long)time, 0, 8);
 }
 
-/* Asks for everything, for bytes, and for nothing. */
+/* Whether this number is in a set. */
+static int is_in(const uint32_t *set, long fd)
+{
+    return set[fd / 32] >> fd % 32 & 1;
+}
+
+/* Selects it to be readable, writable and in a special state. */
+static void ask_select(const char *what, long fd)
+{
+    uint32_t sets[3][SET] = {0};
+    for (int i = 0; i < 3; i++)
+        sets[i][fd / 32] = 1u << fd % 32;
+    long gave = pselect6(fd + 1, sets[0], sets[1], sets[2], &nothing);
+    printf("%s, selected: %ld, left in %d%d%d\n", what, gave, is_in(sets[0], fd), is_in(sets[1], fd), is_in(sets[2], fd));
+}
+
+/* Asks for everything, for bytes, and for nothing; and by select. */
 static void ask(const char *what, long fd)
 {
     static const uint16_t events[] = {ALL, IN, 0};
@@ -76,6 +112,8 @@ static void ask(const char *what, long fd)
         long gave = poll(&polled, 1, &nothing);
         printf("%s, asked for %x: %ld, told %x\n", what, events[i], gave, polled.told);
     }
+    if (fd >= 0)
+        ask_select(what, fd);
 }
 
 static void wait_for(long fd, uint16_t events)
@@ -197,6 +235,41 @@ static void errors(void)
     tell("another command", call(FCNTL, 1, 77, 0, 0, 0));
 }
 
+static void tell_select(const char *what, long most, uint32_t *readable, uint32_t *writable, void *special, void *time)
+{
+    long gave = pselect6(most, readable, writable, special, time);
+    printf("%s: %ld, left %x and %x\n", what, gave, (unsigned)readable[0], (unsigned)writable[0]);
+}
+
+/* 63 isn't open. (qemu is cut off at more than 1,024.) */
+static void selects(void)
+{
+    static uint32_t none[SET], output[SET] = {2}, closed[SET] = {2, 1u << 31};
+    struct time bad[] = {{0, 1000000000}, {-1, 0}};
+    tell("a select of none", pselect6(0, NULL, NULL, NULL, &nothing));
+    tell("a select of none at bad addresses", pselect6(0, (void *)8, (void *)8, (void *)8, &nothing));
+    tell("a select of -1", pselect6(-1, NULL, NULL, NULL, &nothing));
+    tell("a select of -1 at bad addresses", pselect6(-1, (void *)8, (void *)8, (void *)8, NULL));
+    tell("a select of -1 with a time at a bad address", pselect6(-1, NULL, NULL, NULL, (void *)8));
+    tell("a select of -2147483648", pselect6(-2147483647 - 1, NULL, NULL, NULL, &nothing));
+    tell_select("a select of 2", 2, none, output, NULL, &nothing);
+    tell_select("a select of 1,024", 1024, none, output, NULL, &nothing);
+    tell_select("a select of 1, which leaves 1 out", 1, none, output, NULL, &nothing);
+    output[0] = 2;
+    tell_select("a select of 63, which leaves 63 out", 63, none, closed, NULL, &nothing);
+    tell("and the second word", closed[1]);
+    closed[0] = 2, closed[1] = 1u << 31;
+    tell_select("a read of what isn't open, and something ready", 64, closed, output, NULL, NULL);
+    tell_select("a write of what isn't open", 64, none, closed, NULL, NULL);
+    tell_select("something special of what isn't open", 64, none, output, closed, NULL);
+    tell_select("a bad time, and what isn't open", 64, closed, output, NULL, &bad[0]);
+    tell_select("another bad time", 2, none, output, NULL, &bad[1]);
+    tell_select("a time at a bad address", 2, none, output, NULL, (void *)8);
+    tell_select("a third set at a bad address", 2, none, output, (void *)8, &nothing);
+    tell("sets at a bad address", pselect6(1, (void *)8, (void *)8, NULL, &nothing));
+    tell("a set that can't be written", pselect6(1, (void *)selects, NULL, NULL, &nothing));
+}
+
 static void flags(void)
 {
     long file = call(OPENAT, -100, (long)"poll_answers", APPEND | CREATE, 0600, 0);
@@ -217,6 +290,7 @@ static void sleeps(void)
     tell("a poll that waits", poll(list, 1, &soon));
     tell("a poll of none that waits", poll(NULL, 0, &soon));
     tell("something ready, and a day", poll(&ready, 1, &day));
+    tell("a select of none that waits", pselect6(0, NULL, NULL, NULL, &soon));
     tell("a sleep of nothing", call(SLEEP, 0, 0, (long)&nothing, 0, 0));
     tell("a sleep", call(SLEEP, 1, 0, (long)&soon, 0, 0));
     tell("a sleep to a time that is past", call(SLEEP, 0, 1, (long)&long_ago, 0, 0));
@@ -234,6 +308,7 @@ int main(int count, char **arguments)
     flags();
     sockets(count > 1 ? atoi(arguments[1]) : 0);
     errors();
+    selects();
     sleeps();
     return 0;
 }
