@@ -1,6 +1,6 @@
 /*
- * What ppoll, pselect6, fcntl, clock_nanosleep and calls that never wait answer, to be compared between varan and Linux (bench/poll_answers.py): built for 32-bit RISC-V and for
- * the host. Each line that it writes has what was done and what it gave. The first argument is the port that it serves. Its client sends "abcdef" once it got a byte,
+ * What ppoll, pselect6, fcntl, clock_nanosleep and calls that never wait answer, to be compared between varan and Linux (bench/poll_answers.py): built for 32-bit
+ * RISC-V and for the host. Each line that it writes has what was done and what it gave. The first argument is the port that it serves. Its client sends "abcdef" once it got a byte,
  * and no more once it got another. On its input "hello" and a newline come.
  */
 #include <stdint.h>

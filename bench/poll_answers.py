@@ -48,7 +48,7 @@ def under_linux(command, place):
 
 def under_varan(program, guest, place):
     script = place / "script"
-    comes = [*TIMES, f"input {INPUT.hex()}", *TIMES, "end input", *TIMES, f"connect {PORT}", *TIMES, f"data 0 {SENT.hex()}", *TIMES, "end 0", *TIMES, "time 1000 0", "time 2000 0"]
+    comes = [*TIMES, f"input {INPUT.hex()}", *TIMES, "end input", *TIMES, f"connect {PORT}", *TIMES, f"data 0 {SENT.hex()}", *TIMES, "end 0", *TIMES, "time 1000 0", "time 2000 0", "time 3000 0"]
     script.write_text("\n".join(["varan-script 5", f"arg {PORT}", *comes]) + "\n")
     report = subprocess.run([program, "run", "--script", script, guest], check=True, capture_output=True).stdout
     head, _, rest = report.partition(b"\n")

@@ -21,7 +21,7 @@ from hostile_parts.readers import MOST_CLIENTS, Refused, Wrong, read_arrival, re
 EXAMPLES = os.path.join(TOP, "examples")
 GUESTS, SERVERS = os.path.join(EXAMPLES, "guests", "built"), os.path.join(EXAMPLES, "server", "built")
 SERVICE, BROKEN_SERVICE = [os.path.join(GUESTS, "service_1")], [os.path.join(GUESTS, "service_2"), os.path.join(GUESTS, "service_1")]
-LOOPS = [os.path.join(EXAMPLES, "live", "built", name) for name in ("loop_2", "loop_1")]
+LOOPS, SELECTS = ([os.path.join(EXAMPLES, "live", "built", name) for name in names] for names in (("loop_2", "loop_1"), ("loop_select", "loop_select")))
 SERVER, BROKEN_SERVER = [os.path.join(SERVERS, "server_1")], [os.path.join(SERVERS, "server_2"), os.path.join(SERVERS, "server_1")]
 SETUP = b"varan-script 4\nfile index.html 68690a\n"
 PORT = 8080
@@ -65,7 +65,8 @@ PLAIN = Case([], BROKEN_SERVICE, LINES)
 BY_LINES = Case(["--clients"], BROKEN_SERVICE, INPUT)
 BY_CLIENTS = Case(["--clients", "--script", "s"], BROKEN_SERVER, CLIENTS)
 BY_LOOP = Case(["--clients", "--script", "s"], LOOPS, POLLED)
-CASES = (PLAIN, BY_LINES, BY_CLIENTS, BY_LOOP)
+BY_SELECT = Case(["--clients", "--script", "s"], SELECTS, POLLED)
+CASES = (PLAIN, BY_LINES, BY_CLIENTS, BY_LOOP, BY_SELECT)
 
 
 def transcript_in(told):
@@ -339,7 +340,7 @@ class Live:
     def run(self):
         subprocess.run(["cc", "-O2", "-shared", "-fPIC", "-o", self.shim, os.path.join(TOP, "bench", "hostile_parts", "failing.c")], check=True)
         write("s", SETUP)
-        for kind, case in (("lines", PLAIN), ("lines of --clients", BY_LINES), ("clients", BY_CLIENTS), ("clients of a loop", BY_LOOP)):
+        for kind, case in (("lines", PLAIN), ("lines of --clients", BY_LINES), ("clients", BY_CLIENTS), ("clients of a loop", BY_LOOP), ("clients of a loop over select", BY_SELECT)):
             for content in damaged_text(case.sent):
                 self.broken(kind, case, content)
         self.many()
