@@ -52,13 +52,13 @@ static long clock_time(long clock, int64_t *time)
         time[0] = time[1] = 0;
         return 0;
     case CLOCK_REALTIME_COARSE:
-        return KERNEL_AMONG_OTHERS(SYS_clock_gettime64, CLOCK_REALTIME, time);
+        return KERNEL(SYS_clock_gettime64, CLOCK_REALTIME, time);
     case CLOCK_MONOTONIC_RAW:
     case CLOCK_MONOTONIC_COARSE:
     case CLOCK_BOOTTIME:
-        return KERNEL_AMONG_OTHERS(SYS_clock_gettime64, CLOCK_MONOTONIC, time);
+        return KERNEL(SYS_clock_gettime64, CLOCK_MONOTONIC, time);
     default:
-        return KERNEL_AMONG_OTHERS(SYS_clock_gettime64, clock, time);
+        return KERNEL(SYS_clock_gettime64, clock, time);
     }
 }
 
@@ -89,12 +89,19 @@ static long clone_process(long flags)
 
 static long send_message(long fd, const struct msghdr *message)
 {
-    return KERNEL_AMONG_OTHERS(SYS_writev, fd, message->msg_iov, message->msg_iovlen);
+    return KERNEL(SYS_writev, fd, message->msg_iov, message->msg_iovlen);
+}
+
+/* read and readv */
+static long read_descriptor(long n, long fd, long bytes, long length)
+{
+    wait_for_arrival(fd);
+    return KERNEL(n, fd, bytes, length);
 }
 
 static long receive_message(long fd, struct msghdr *message)
 {
-    long result = KERNEL_AMONG_OTHERS(SYS_readv, fd, message->msg_iov, message->msg_iovlen);
+    long result = read_descriptor(SYS_readv, fd, (long)message->msg_iov, message->msg_iovlen);
     message->msg_controllen = 0;
     message->msg_flags = 0;
     message->msg_namelen = 0;
@@ -103,7 +110,7 @@ static long receive_message(long fd, struct msghdr *message)
 
 static long receive(long fd, void *bytes, long length, long flags)
 {
-    return flags & (MSG_PEEK | MSG_OOB) ? -EOPNOTSUPP : KERNEL_AMONG_OTHERS(SYS_read, fd, bytes, length);
+    return flags & (MSG_PEEK | MSG_OOB) ? -EOPNOTSUPP : read_descriptor(SYS_read, fd, (long)bytes, length);
 }
 
 /* ---- the calls by their numbers: those of each function below, the others go on to the next */
@@ -123,20 +130,22 @@ static long socket_call(long n, long a, long b, long c, long d, long e, long f)
     case SYS_setsockopt: return own_address(a, NULL, NULL);
     case SYS_getsockopt: return socket_option(a, b, c, (void *)d, (void *)e);
     case SYS_shutdown: return on_connection(a);
-    case SYS_sendto: return KERNEL_AMONG_OTHERS(SYS_write, a, b, c);
+    case SYS_sendto: return KERNEL(SYS_write, a, b, c);
     case SYS_recvfrom: return receive(a, (void *)b, c, d);
     case SYS_sendmsg: return send_message(a, (void *)b);
     case SYS_recvmsg: return receive_message(a, (void *)b);
     case SYS_sendfile64: return send_file(a, b, (void *)c, d);
     case SYS_ppoll_time64: return poll_descriptors((void *)a, b, (void *)c, (void *)d);
     case SYS_pselect6_time64: return select_descriptors(a, (void *)b, (void *)c, (void *)d, (void *)e, f ? *(const uint64_t **)f : NULL);
-    default: return KERNEL_AMONG_OTHERS(n, a, b, c, d, e, f);
+    default: return KERNEL(n, a, b, c, d, e, f);
     }
 }
 
 static long file_call(long n, long a, long b, long c, long d, long e, long f)
 {
     switch (n) {
+    case SYS_read:
+    case SYS_readv: return read_descriptor(n, a, b, c);
     case SYS_openat: return open_file((void *)b, c, d);
     case SYS_unlinkat: return remove_file((void *)b, c);
     case SYS_close: return close_descriptor(a);
@@ -228,7 +237,8 @@ static long answer(long n, long a, long b, long c, long d, long e, long f)
     case SYS_madvise: return 0;
     case SYS_clock_gettime64: return clock_time(a, (void *)b);
     case SYS_clock_getres_time64: return clock_step((void *)b);
-    case SYS_clock_nanosleep_time64: return sleep_until(a, b, (void *)c);
+    case SYS_clock_nanosleep_time64: return sleep_with_others(a, b, (void *)c);
+    case SYS_sched_yield: return yield();
     default: return process_call(n, a, b, c, d, e, f);
     }
 }
@@ -237,10 +247,7 @@ long guest_call(long n, long a, long b, long c, long d, long e, long f)
 {
     if (n == SYS_futex_time64)
         return wait_or_wake((void *)a, b, c, (void *)d, d);
-    enter_layer();
     if (!leaves_quiet(n))
         not_quiet();
-    long result = answer(n, a, b, c, d, e, f);
-    leave_layer();
-    return result;
+    return answer(n, a, b, c, d, e, f);
 }

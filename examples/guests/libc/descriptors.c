@@ -86,7 +86,7 @@ long close_descriptor(long fd)
     if (closed->taken)
         KERNEL(SYS_close, closed->taken);
     *closed = (struct descriptor){0};
-    return KERNEL_AMONG_OTHERS(SYS_close, fd);
+    return KERNEL(SYS_close, fd);
 }
 
 /* ---- names and numbers */
@@ -131,7 +131,7 @@ long open_file(const char *path, long flags, long mode)
 {
     const char *name = name_of(path);
     bool is_null = !strcmp(name, "dev/null");
-    long fd = is_null ? open_null() : KERNEL_AMONG_OTHERS(SYS_openat, ONLY_DIRECTORY, *path ? name : path, flags, mode);
+    long fd = is_null ? open_null() : KERNEL(SYS_openat, ONLY_DIRECTORY, *path ? name : path, flags, mode);
     if (fd >= 0) {
         struct descriptor *file = opened(fd, ANY_FILE);
         file->inode = inode_of(name);
@@ -142,7 +142,7 @@ long open_file(const char *path, long flags, long mode)
 
 long remove_file(const char *path, long flags)
 {
-    return KERNEL_AMONG_OTHERS(SYS_unlinkat, ONLY_DIRECTORY, name_of(path), flags);
+    return KERNEL(SYS_unlinkat, ONLY_DIRECTORY, name_of(path), flags);
 }
 
 /* A copy of what the kernel has copied already. */
@@ -176,7 +176,7 @@ long copy_descriptor(long fd, long least, bool closes_on_exec)
 
 long make_pipe(int *ends, long flags)
 {
-    long result = KERNEL_AMONG_OTHERS(SYS_pipe2, ends, flags);
+    long result = KERNEL(SYS_pipe2, ends, flags);
     for (int i = 0; result == 0 && i < 2; i++) {
         struct descriptor *end = opened(ends[i], ANY_FILE);
         end->closes_on_exec = flags & O_CLOEXEC;

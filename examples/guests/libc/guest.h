@@ -13,9 +13,6 @@ long kernel_call(long number, long a, long b, long c, long d, long e, long f);
 /* The same, where the arguments that are left out are 0. */
 #define KERNEL(...) KERNEL_SIX(__VA_ARGS__, 0, 0, 0, 0, 0, 0, 0)
 
-/* The same, with other threads let into this layer until it is answered: each follower waits in it for its turn in the log. */
-#define KERNEL_AMONG_OTHERS(...) (leave_layer(), come_back_with(KERNEL(__VA_ARGS__)))
-
 /* Every call of the C library comes here (calls.c). */
 long guest_call(long number, long a, long b, long c, long d, long e, long f);
 
@@ -27,6 +24,7 @@ enum kind { ANY_FILE, NEW_SOCKET, LISTENER, CONNECTION };
 struct descriptor {
     bool is_open, closes_on_exec, waits_not;
     bool is_inherited;   /* a child has it of its parent, and hasn't closed it */
+    bool has_come;       /* a poll for several threads reported an arrival that no call has taken since */
     enum kind kind;
     unsigned short port; /* of a socket: its own */
     unsigned short peer; /* of a connection: the client's */
@@ -68,6 +66,8 @@ long poll_descriptors(struct pollfd *asked, long count, const int64_t *timeout, 
 long select_descriptors(long count, void *readable, void *writable, void *special, const int64_t *timeout, const uint64_t *mask);
 /* The kernel is told whether calls on this descriptor wait; one that has no call for it isn't asked again. */
 void set_waiting(long fd, bool waits_not);
+/* Whether the kernel has calls that wait for one of several descriptors, or for a time: where it isn't known, it is asked. */
+bool kernel_polls(void);
 /* Waits until then, where the kernel has a call for it. */
 long sleep_until(long clock, long flags, const int64_t *time);
 void not_quiet(void);
@@ -99,19 +99,51 @@ _Noreturn void end_of_waiting(void);
 _Noreturn void cannot(const char *what);
 long wait_for_child(long which, long process, void *info, long options);
 
-/* ---- threads (threads.c) */
+/* ---- threads (threads.c, waiting.c) */
 
-/* What stands between these is done by one thread at a time. */
-void enter_layer(void);
-void leave_layer(void);
-/* Enters, and comes to this result. */
-long come_back_with(long result);
 bool has_threads(void);
 long thread_number(void);
 _Noreturn void end_thread(long status);
-/* Nothing will come for this thread any more. It comes back when all other threads wait, too. */
-void wait_for_threads(void);
 long wait_or_wake(int *word, long operation, long value, const void *timeout, long count);
+
+/* A time that never comes; others are nanoseconds of the monotonic clock. */
+#define NEVER INT64_MAX
+
+/* A thread that waits, on its own stack. What it doesn't wait for is 0, and the end NEVER. */
+struct waiter {
+    struct waiter *next;
+    const int *word;       /* of a futex */
+    struct pollfd *polled; /* so many descriptors */
+    long count;
+    int64_t end;
+    bool is_for_end;       /* it waits until no other thread can go on any more */
+    bool can_go_on;
+    long result;
+    int has_turn;          /* the word at which it sleeps */
+};
+
+/* The turn goes to others until this thread can go on, and gets it back. Its result. */
+long wait_with_others(struct waiter *own);
+/* Adds a thread to those that wait. */
+void add_waiter(struct waiter *thread);
+/* Sleeps until the thread has the turn. */
+void wait_for_turn(struct waiter *own);
+/* The thread that has the turn next; a null pointer where none can ever go on. */
+struct waiter *next_thread(void);
+/* Lets those go on that wait at this word, so many at most. Answers how many. */
+long wake_waiters(const int *word, long most);
+/* The time after this timeout; NEVER after none. */
+int64_t time_after(const int64_t *timeout);
+/* Nothing will come for this thread any more. It comes back once no other can go on. */
+void wait_for_threads(void);
+/* Before a call on this descriptor that waits for an arrival: if there are other threads, they go on until it doesn't. */
+void wait_for_arrival(long fd);
+/* The kernel's ppoll, and its wait until then; if there are other threads, these go on. */
+long poll_with_others(struct pollfd *asked, long count, const int64_t *timeout);
+long sleep_with_others(long clock, long flags, const int64_t *time);
+/* The turn goes to threads that can go on, if there are some, and comes back. */
+void let_others_go_on(void);
+long yield(void);
 
 long set_handler(long signal, const void *new, void *old);
 long set_mask(long how, const uint64_t *set, uint64_t *old);

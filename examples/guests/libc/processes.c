@@ -137,7 +137,7 @@ long fork_process(void)
 static _Noreturn void end_with(int status)
 {
     if (!parent)
-        KERNEL_AMONG_OTHERS(SYS_exit_group, status & 127 ? 128 + (status & 127) : status >> 8);
+        KERNEL(SYS_exit_group, status & 127 ? 128 + (status & 127) : status >> 8);
     return_descriptors();
     parent->child_status = status;
     parent->last_number = last_number;

@@ -47,14 +47,12 @@ static void handle(int signal)
         blocked |= bit(signal);
     if (action.flags & SA_RESETHAND)
         actions[signal].handler = SIG_DFL;
-    leave_layer();
     if (action.flags & SA_SIGINFO) {
         siginfo_t info = {.si_signo = signal, .si_pid = process_number(), .si_uid = 1000};
         action.with_info(signal, &info, NULL);
     } else {
         action.handler(signal);
     }
-    enter_layer();
     blocked = before;
 }
 

@@ -30,7 +30,7 @@ long new_socket(long domain, long type, long protocol)
         return -EAFNOSUPPORT;
     if ((type & 15) != SOCK_STREAM)
         return -ESOCKTNOSUPPORT;
-    long fd = KERNEL_AMONG_OTHERS(SYS_socket, domain, type & ~SOCK_CLOEXEC, protocol);
+    long fd = KERNEL(SYS_socket, domain, type & ~SOCK_CLOEXEC, protocol);
     if (fd < 0)
         return fd;
     struct descriptor *socket = opened(fd, NEW_SOCKET);
@@ -41,7 +41,7 @@ long new_socket(long domain, long type, long protocol)
 
 long bind_socket(long fd, const unsigned char *address, long length)
 {
-    long result = KERNEL_AMONG_OTHERS(SYS_bind, fd, address, length);
+    long result = KERNEL(SYS_bind, fd, address, length);
     if (result == 0)
         descriptor_of(fd)->port = address[2] << 8 | address[3];
     return result;
@@ -49,7 +49,7 @@ long bind_socket(long fd, const unsigned char *address, long length)
 
 long listen_at(long fd, long backlog)
 {
-    long result = KERNEL_AMONG_OTHERS(SYS_listen, fd, backlog);
+    long result = KERNEL(SYS_listen, fd, backlog);
     if (result == 0)
         descriptor_of(fd)->kind = LISTENER;
     return result;
@@ -108,8 +108,10 @@ long accept_client(long fd, void *address, unsigned *length, long flags)
         return -EINVAL;
     long client = listener->taken;
     listener->taken = 0;
-    if (!client)
-        client = KERNEL_AMONG_OTHERS(SYS_accept4, fd, 0, 0, flags & SOCK_NONBLOCK);
+    if (!client) {
+        wait_for_arrival(fd);
+        client = KERNEL(SYS_accept4, fd, 0, 0, flags & SOCK_NONBLOCK);
+    }
     if (client == -EAGAIN && !listener->waits_not)
         end_of_waiting();
     if (client < 0)
@@ -177,6 +179,8 @@ static short events_of(long fd, short wanted, bool asks_listeners)
 /* What a poll answers that found so many. One that finds nothing and has no end, and one too many that found nothing, end the service. */
 static long found(long count, const int64_t *timeout)
 {
+    if (!count)
+        let_others_go_on();
     quiet = count ? 0 : quiet + 1;
     if (!count && (!timeout || quiet > MOST_QUIET))
         end_of_waiting();
@@ -212,20 +216,30 @@ void set_waiting(long fd, bool waits_not)
         known(KERNEL(SYS_fcntl64, fd, F_SETFL, O_RDWR | (waits_not ? O_NONBLOCK : 0)));
 }
 
+bool kernel_polls(void)
+{
+    static bool is_asked;
+    if (!is_asked) {
+        is_asked = true;
+        known(KERNEL(SYS_ppoll_time64, 0, 0, (int64_t[2]){0}));
+    }
+    return !polls_not;
+}
+
 long sleep_until(long clock, long flags, const int64_t *time)
 {
-    long result = polls_not ? -ENOSYS : known(KERNEL_AMONG_OTHERS(SYS_clock_nanosleep_time64, clock, flags, time));
+    long result = polls_not ? -ENOSYS : known(KERNEL(SYS_clock_nanosleep_time64, clock, flags, time));
     return result == -ENOSYS ? 0 : result;
 }
 
 static long select_by(struct selected *sets, const void *timeout)
 {
-    return known(KERNEL_AMONG_OTHERS(SYS_pselect6_time64, sets->most, sets->readable, sets->writable, sets->special, timeout));
+    return known(KERNEL(SYS_pselect6_time64, sets->most, sets->readable, sets->writable, sets->special, timeout));
 }
 
 static long poll_now(struct pollfd *asked, long count)
 {
-    return KERNEL_AMONG_OTHERS(SYS_ppoll_time64, asked, count, &(int64_t[2]){0});
+    return KERNEL(SYS_ppoll_time64, asked, count, &(int64_t[2]){0});
 }
 
 /* The kernel's answer; -ENOSYS where it has none. */
@@ -233,7 +247,7 @@ static long poll_by_kernel(struct pollfd *asked, long count, const int64_t *time
 {
     if (polls_not)
         return -ENOSYS;
-    long ready = count > MOST_POLLED ? poll_long(asked, count, timeout) : known(KERNEL_AMONG_OTHERS(SYS_ppoll_time64, asked, count, timeout));
+    long ready = count > MOST_POLLED ? poll_long(asked, count, timeout) : known(poll_with_others(asked, count, timeout));
     return ready == -EINTR ? end_of_service(timeout, mask) : ready;
 }
 
@@ -250,6 +264,52 @@ static void empty(fd_set *set, long count)
         memset(set, 0, (count + WORD_BITS - 1) / WORD_BITS * sizeof(uint32_t));
 }
 
+static void ask(struct pollfd *asked, long *count, long fd, const fd_set *set, short events)
+{
+    if (!set || !FD_ISSET(fd, set))
+        return;
+    if (*count == 0 || asked[*count - 1].fd != fd)
+        asked[(*count)++] = (struct pollfd){.fd = fd};
+    asked[*count - 1].events |= events;
+}
+
+/* Leaves in a set the descriptors of which one of these is told. Answers how many. */
+static long keep_told(const struct pollfd *asked, long count, fd_set *set, short wanted, short told)
+{
+    long ready = 0;
+    for (long i = 0; set && i < count; i++) {
+        if (!(asked[i].events & wanted))
+            continue;
+        if (asked[i].revents & told)
+            ready++;
+        else
+            FD_CLR(asked[i].fd, set);
+    }
+    return ready;
+}
+
+/* A select beside other threads is a poll, so that these go on. */
+static long select_with_others(long most, fd_set *readable, fd_set *writable, fd_set *special, const int64_t *timeout)
+{
+    struct pollfd asked[DESCRIPTORS];
+    long count = 0;
+    for (long fd = 0; fd < most; fd++) {
+        ask(asked, &count, fd, readable, POLLIN);
+        ask(asked, &count, fd, writable, POLLOUT);
+        ask(asked, &count, fd, special, POLLPRI);
+    }
+    for (long i = 0; i < count; i++)
+        if (!descriptor_of(asked[i].fd))
+            return -EBADF;
+    if (count > MOST_POLLED)
+        return KERNEL(SYS_pselect6_time64, most, readable, writable, special, timeout);
+    long ready = poll_with_others(asked, count, timeout);
+    if (ready < 0)
+        return ready;
+    return keep_told(asked, count, readable, POLLIN, POLLIN | POLLHUP | POLLERR) + keep_told(asked, count, writable, POLLOUT, POLLOUT | POLLERR) +
+           keep_told(asked, count, special, POLLPRI, POLLPRI);
+}
+
 /* The kernel's answer; -ENOSYS where it has none. What a child has closed may be open there, for its parent. */
 static long select_by_kernel(long count, fd_set *readable, fd_set *writable, fd_set *special, const int64_t *timeout, const uint64_t *mask)
 {
@@ -258,7 +318,7 @@ static long select_by_kernel(long count, fd_set *readable, fd_set *writable, fd_
         return -ENOSYS;
     if (is_child() && (has_closed(readable, most) || has_closed(writable, most) || has_closed(special, most)))
         return -EBADF;
-    long ready = known(KERNEL_AMONG_OTHERS(SYS_pselect6_time64, count, readable, writable, special, timeout));
+    long ready = known(has_threads() ? select_with_others(most, readable, writable, special, timeout) : KERNEL(SYS_pselect6_time64, count, readable, writable, special, timeout));
     if (ready != -EINTR)
         return ready;
     ready = end_of_service(timeout, mask);

@@ -1,6 +1,6 @@
 # Threads, where C can't be: between a thread's beginning and its stack, and once it has none any more.
     .text
-# long new_thread(long flags, void *stack, void *locals): clone. The child finds on its stack its work, the argument, and where its number goes.
+# long new_thread(long flags, struct start *start, void *locals): clone. The child's stack ends at its start.
     .globl new_thread
 new_thread:
     mv a3, a2
@@ -10,33 +10,23 @@ new_thread:
     ecall
     beqz a0, 1f
     ret
-1:  li a7, 178
-    ecall
-    lw t0, 8(sp)
-    sw a0, 0(t0)
-    lw t0, 0(sp)
-    lw a0, 4(sp)
-    jalr t0
-# A thread's work doesn't come back: the C library ends the thread.
-    ebreak
+1:  mv a0, sp
+    tail begin_thread
 
-# void leave_thread(int *lock, int *waiting): the lock is 0 from now on, a thread that waits for it isn't one of those that wait any more, and this
-# one ends. Others may have its stack by then.
+# void leave_thread(int *next_has_turn): gives the turn to the thread that sleeps at this word, if there is one, and ends. Others may have its stack by then.
     .globl leave_thread
 leave_thread:
-    mv t1, a1
-    fence rw, rw
-    sw zero, 0(a0)
+    beqz a0, 1f
     li a1, 1
+    fence rw, rw
+    sw a1, 0(a0)
     li a2, 1
     li a3, 0
     li a4, 0
     li a5, 0
     li a7, 422
     ecall
-    neg a0, a0
-    amoadd.w zero, a0, (t1)
-    li a0, 0
+1:  li a0, 0
     li a7, 93
     ecall
 

@@ -1,9 +1,7 @@
 /*
- * Threads, by clone of the kernel with the flags that it takes. Of what the C library asks for besides, this does two things: a thread's number is
- * written where the library looks for it, and where a thread ends the library's lock on its list of threads is given back.
- *
- * Threads take turns, and a turn can end anywhere: what this layer does is done by one thread at a time. A wait for what will never come is over once
- * all other threads wait as well.
+ * Threads, by clone of the kernel with the flags that it takes: their beginning, their end, and the futexes by which the C library's threads wait for each
+ * other. Which of them has the turn is in waiting.c. Of what the library asks of clone besides, a thread's number is written where the library looks for it, and
+ * where a thread ends the library's lock on its list of threads is given back.
  */
 #include "guest.h"
 #include <errno.h>
@@ -16,40 +14,24 @@ enum {
 };
 /* futex(2) */
 enum { WAIT = 0, WAKE = 1, REQUEUE = 3, PRIVATE = 128, REALTIME = 256 };
-/* In so many rounds of turns each thread has come from one line of this file to the next. */
-enum { ROUNDS = 4 };
 
-long new_thread(long flags, void *stack, void *locals);
-_Noreturn void leave_thread(int *lock, int *waiting);
+/* What a thread finds at the end of its stack when it begins. */
+struct start {
+    int (*work)(void *);
+    void *argument;
+    struct waiter own;
+};
 
-/* How many threads live; how many of these wait in a futex, and for what will never come. */
-static int living = 1, waiting, waiting_for_nothing;
-/* The C library's lock on its list of threads. */
+long new_thread(long flags, struct start *start, void *locals);
+_Noreturn void leave_thread(int *next_has_turn);
+
+static int living = 1;
+/* The C library's lock on its list of threads; a null pointer until there is a second thread. */
 static int *list_lock;
-static int is_inside;
 
 bool has_threads(void)
 {
     return living > 1;
-}
-
-void enter_layer(void)
-{
-    while (__atomic_exchange_n(&is_inside, 1, __ATOMIC_SEQ_CST))
-        KERNEL(SYS_futex_time64, &is_inside, WAIT, 1);
-}
-
-void leave_layer(void)
-{
-    __atomic_store_n(&is_inside, 0, __ATOMIC_SEQ_CST);
-    if (has_threads())
-        KERNEL(SYS_futex_time64, &is_inside, WAKE, 1);
-}
-
-long come_back_with(long result)
-{
-    enter_layer();
-    return result;
 }
 
 /* ---- a thread's beginning and its end */
@@ -61,87 +43,75 @@ int __clone(int (*work)(void *), void *stack, int flags, void *argument, int *nu
         return -ENOSYS;
     if (is_child())
         return -EAGAIN;
-    void **top = (void **)((unsigned long)stack & -16UL) - 4;
-    top[0] = (void *)work;
-    top[1] = argument;
-    top[2] = number;
-    list_lock = lock;
-    __atomic_fetch_add(&living, 1, __ATOMIC_SEQ_CST);
-    long made = new_thread(FLAGS, top, locals);
+    struct start *start = (struct start *)((unsigned long)stack & -16UL) - 1;
+    start = (struct start *)((unsigned long)start & -16UL);
+    *start = (struct start){.work = work, .argument = argument, .own = {.can_go_on = true, .end = NEVER}};
+    /* one that has given its turn away may have its last instructions before it: it isn't to be one thread too many */
+    KERNEL(SYS_sched_yield);
+    long made = new_thread(FLAGS, start, locals);
     if (made < 0)
-        __atomic_fetch_sub(&living, 1, __ATOMIC_SEQ_CST);
-    else
-        *number = made;
+        return made;
+    list_lock = lock;
+    living++;
+    *number = made;
+    add_waiter(&start->own);
     return made;
 }
 
-/* The thread is inside, and leaves. */
+/* Where a thread begins. The C library ends it: its work doesn't come back. */
+_Noreturn void begin_thread(struct start *start)
+{
+    wait_for_turn(&start->own);
+    start->work(start->argument);
+    __builtin_trap();
+}
+
 _Noreturn void end_thread(long status)
 {
     if (!has_threads())
         end_process(status);
-    __atomic_fetch_sub(&living, 1, __ATOMIC_SEQ_CST);
-    leave_layer();
-    leave_thread(list_lock, &waiting);
+    living--;
+    *list_lock = 0;
+    wake_waiters(list_lock, 1);
+    struct waiter *next = next_thread();
+    leave_thread(next ? &next->has_turn : NULL);
 }
 
 /* The end of a thread that nobody waits for: its stack, on which this isn't done any more, is given back. */
 _Noreturn void end_without_stack(void *pages, unsigned long length)
 {
-    enter_layer();
     unmap_pages((unsigned long)pages, length);
     end_thread(0);
 }
 
-/* ---- waiting */
+/* ---- futexes */
 
-/* Comes back once all threads wait: in a futex, or as this one, for what will never come. */
-void wait_for_threads(void)
+/* A wait with an end where the kernel has none: the others have a turn, and the time has gone by. */
+static long wait_in_vain(const int *word, long value)
 {
-    leave_layer();
-    __atomic_fetch_add(&waiting_for_nothing, 1, __ATOMIC_SEQ_CST);
-    for (int rounds = 0; rounds < ROUNDS; KERNEL(SYS_sched_yield))
-        rounds = waiting + waiting_for_nothing < living ? 0 : rounds + 1;
-    enter_layer();
-}
-
-/* A thread that is woken counts as one that waits until the one that wakes it has counted it out. */
-static long wait_on(int *word, long value)
-{
-    __atomic_fetch_add(&waiting, 1, __ATOMIC_SEQ_CST);
-    long result = KERNEL(SYS_futex_time64, word, WAIT, value);
-    if (result < 0)
-        __atomic_fetch_sub(&waiting, 1, __ATOMIC_SEQ_CST);
-    return result;
-}
-
-/* A wait with an end: the others have a turn, and the time has gone by. */
-static long wait_until(const int *word, long value)
-{
-    KERNEL(SYS_sched_yield);
-    if (__atomic_load_n(word, __ATOMIC_SEQ_CST) != value)
+    let_others_go_on();
+    if (*word != value)
         return -EAGAIN;
-    enter_layer();
     nothing_came();
-    leave_layer();
     return -ETIMEDOUT;
 }
 
-static long wake(int *word, long count)
+static long wait_on(const int *word, long value, const int64_t *timeout)
 {
-    long woken = KERNEL(SYS_futex_time64, word, WAKE, count);
-    if (woken > 0)
-        __atomic_fetch_sub(&waiting, woken, __ATOMIC_SEQ_CST);
-    return woken;
+    if (timeout && (!list_lock || !kernel_polls()))
+        return wait_in_vain(word, value);
+    if (*word != value)
+        return -EAGAIN;
+    return wait_with_others(&(struct waiter){.word = word, .end = time_after(timeout)});
 }
 
 long wait_or_wake(int *word, long operation, long value, const void *timeout, long count)
 {
     switch (operation & ~(PRIVATE | REALTIME)) {
-    case WAIT: return timeout ? wait_until(word, value) : wait_on(word, value);
-    case WAKE: return wake(word, value);
+    case WAIT: return wait_on(word, value, timeout);
+    case WAKE: return wake_waiters(word, value);
     /* Those that would wait at another word are woken: they look there themselves. */
-    case REQUEUE: return wake(word, value + count);
+    case REQUEUE: return wake_waiters(word, value + count);
     default: return -ENOSYS;
     }
 }
