@@ -3,8 +3,8 @@
 
     operating.py PROGRAM
 
-The service is keeper.c behind ../../service/varan-listen. It counts the requests of all clients, so one that is lost or done twice shows; so does loop.c, which serves all at once; dated.s tells
-the time. Each row that doesn't hold is printed; the last line has how many there were, how many were wrong, and the longest wait of a client. Status 1 where one was wrong.
+The service is keeper.c behind ../../service/varan-listen. It counts the requests of all clients, so one that is lost or done twice shows; so do loop.c and
+per_client.c, which serve all at once; dated.s tells the time. Each row that doesn't hold is printed; the last line has how many there were, how many were wrong, and the longest wait of a client. Status 1 where one was wrong.
 """
 import contextlib
 import os
@@ -23,6 +23,9 @@ import time
 HERE = pathlib.Path(__file__).resolve().parent
 KEEPER = {number: str(HERE / f"built/keeper_{number}") for number in (1, 2, 3)}
 LOOP = str(HERE / "built/loop_1")
+# With a thread for each client; the words for their stacks, and how many clients it serves at a time.
+PER_CLIENT = {number: str(HERE / f"built/per_client_{number}") for number in (1, 2)}
+STACKS, AT_A_TIME = ["--memory", "4194304"], 7
 SLOW = str(HERE / "built/keeper_slow")
 SECONDS = 300
 # Seconds that a client may be silent, and the words for one that is silent while something else is done.
@@ -37,6 +40,8 @@ SECOND, TIME_STEP = 1_000_000_000, 1_000_000
 # What form 4 lets a run write to a client, and what may wait for one to read it.
 MOST_OF_FORM_4, MOST_UNREAD = 1_048_576, 16_777_216
 SMALL = 4096
+# Linux's numbers of calls.
+READ, WRITE, PPOLL = 63, 64, 414
 LONG = "x" * 1900
 # A command that stands still, before it is the program, while there is a file `hold` beside it.
 HELD = """#!/bin/sh
@@ -838,6 +843,56 @@ def one_loop(rows, program):
     rows.same((folder / "console").read_text(), "6 requests\n", "what the server writes in the end")
 
 
+def thread_for_each(rows, program):
+    """A server with a thread for each client answers the others while one is silent, also where the update breaks, the command is killed and a version joins."""
+    service = Service(program, PER_CLIENT[2], PER_CLIENT[1], options=ENDLESS, words=[*STACKS, "--log"])
+    silent, one, other = service.connect(), service.connect(), service.connect()
+    rows.same(one.ask("put colour green") + other.ask("get colour"), ["kept", "green"], "two clients beside a silent one")
+    before = answered(service)
+    rows.same(one.ask("get colour"), ["green"], "one of them again")
+    until(lambda: len(events_of(service)) > len(before), "the event of a request")
+    rows.same([call_of(it) for it in answered(service)[len(before):]], [PPOLL, READ, WRITE], "the calls of a request")
+    rows.same(service.roles(), [(PER_CLIENT[2], "leads"), (PER_CLIENT[1], "follows")], "both versions, in step")
+    rows.same(one.ask("drop colour") + other.ask("get size") + one.ask("size"), ["dropped", "not there", "6"], "the request at which the update breaks, and the next")
+    until(lambda: service.roles() == [(PER_CLIENT[2], "ended:"), (PER_CLIENT[1], "leads")], "the old version leads")
+    rows.holds("ended: fault load " in "\n".join(service.operate("status")), "the status tells why", service.operate("status"))
+
+    os.kill(service.serving(), signal.SIGKILL)
+    rows.same(one.ask("size"), ["7"], "a request after the command was killed")
+    rows.same(service.operate(f"join {PER_CLIENT[1]}")[-1], "ok", "a version joins")
+    rows.same(service.operate("hand")[-1], "ok", "the lead is to be handed over")
+    rows.same(other.ask("size"), ["8"], "the request at which it is")
+    until(lambda: service.roles()[1:] == [(PER_CLIENT[1], "follows"), (PER_CLIENT[1], "leads")], "the version that joined leads")
+    more = [service.connect() for _ in range(AT_A_TIME - 3)]
+    rows.same([client.ask("size") for client in more], [[str(9 + n)] for n in range(len(more))], "as many clients as it serves at a time")
+    late = service.connect()
+    late.send("size")
+    rows.same(one.ask("size"), ["13"], "a client beside one too many")
+    more.pop().close()
+    rows.same(late.lines.readline(), "14\n", "one too many, once another one has left")
+    rows.same(silent.ask("size"), ["15"], "the silent client")
+    transcript = service.transcript()
+    for client in (silent, one, other, late, *more):
+        client.close()
+    rows.same(service.end(), 0, "the status")
+    again = subprocess.run([program, "run", *STACKS, "--calls", "131072", "--hang", "100000000", "--script", transcript, PER_CLIENT[2], PER_CLIENT[1]], stdout=subprocess.PIPE, text=True, errors="replace").stdout
+    rows.same(re.findall(r"^[01] (fault load|exited 0) ", again, re.M), ["fault load", "exited 0"], "the fates by the run of the transcript")
+
+
+def events_of(service):
+    """The events of the process that serves, by its transcript."""
+    return re.findall(r"^# (\d+ \d+ \d+ .* = .*)$", service.transcript().read_text(), re.M)
+
+
+def call_of(event):
+    return int(event.split()[2])
+
+
+def answered(service):
+    """The events once the last one is the write of an answer."""
+    return until(lambda: call_of((events := events_of(service))[-1]) == WRITE and events, "the event of an answer")
+
+
 def is_let_go(rows, client, what):
     """The client gets a line, and no more, after the server's time; the server's clock has whole seconds."""
     rows.same((client.lines.readline(), client.lines.readline()), ("late\n", ""), what)
@@ -954,7 +1009,7 @@ def received(client):
 
 
 started = []
-TRIED = (joining, silent_client, handing, falling_back, breaking_and_leaving, letting_go, failing, reloading, permitted, told_metrics, killed_command, killed_all, resuming, left_copies, real_time, one_loop, nearly_all_clients, unheard_port, closed_console, unread_console, made_folder, full_transcript, cut_answers)
+TRIED = (joining, silent_client, handing, falling_back, breaking_and_leaving, letting_go, failing, reloading, permitted, told_metrics, killed_command, killed_all, resuming, left_copies, real_time, one_loop, thread_for_each, nearly_all_clients, unheard_port, closed_console, unread_console, made_folder, full_transcript, cut_answers)
 
 
 def main():

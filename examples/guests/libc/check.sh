@@ -1,6 +1,6 @@
 #!/usr/bin/env bash
 # Builds answers.c over the guests' library and over the library as it is, and compares what the first writes under varan with what the second
-# writes under Linux, by qemu-riscv32; threads too (threaded.c). Looks at a server that polls (polled.c), over scripts of form 3 and of form 5, and at what a full stack and what can't be had
+# writes under Linux, by qemu-riscv32; threads too (threaded.c), beside versions that are built otherwise. Looks at a server that polls (polled.c), over scripts of form 3 and of form 5, and at what a full stack and what can't be had
 # end with.
 # check.sh [PROGRAM]: crates/varan/out/varan where no program is named.
 # Status: 0 where all is so, 1 where something isn't, 2 where the program isn't built, 3 where a tool or the library is missing.
@@ -52,6 +52,25 @@ grep -q '^1 exited 0 ' "$work/report" || { echo "check.sh: a second version with
 printf 'connections 3\nconnection 0 90 5\nHELLO\nconnection 1 90 0\n\nconnection 2 90 57\n%s\n' \
     'MORE BYTES THAN ARE READ AT ONCE, BY TWO AND A HALF TIMES' >"$work/expected"
 sed -n '/^connections /,$p' "$work/report" | diff "$work/expected" - || { echo "check.sh: the clients of threaded.c get something else"; wrong=1; }
+
+# The same where clients come one after another: the first one is silent until the two others have their answers. Versions that are built otherwise are in step.
+{
+    echo 'varan-script 5'
+    echo 'arg 90'
+    printf 'time 1 0\nconnect 90\nconnect 90\ndata 1 %s\nconnect 90\ndata 2 %s\nend 1\ndata 0 %s\nend clients\nend 2\nend 0\n' \
+        "$(printf second | xxd -p)" "$(printf third | xxd -p)" "$(printf first | xxd -p)"
+} >"$work/script"
+others=()
+for option in O0 O2 O3 Os; do
+    ./cc "-$option" -o "$work/guest_$option" threaded.c
+    others+=("$work/guest_$option")
+done
+console "$work/guest" "${others[@]}" >"$work/written"
+is_same=$(grep -c '^[0-4] exited 0 ' "$work/report" || true)
+[ "$is_same" = 5 ] || { echo "check.sh: $is_same of five versions with threads are in step"; sed -n '/^fates/,$p' "$work/report"; wrong=1; }
+printf 'connections 3\nconnection 0 90 5\nFIRST\nconnection 1 90 6\nSECOND\nconnection 2 90 5\nTHIRD\n' >"$work/expected"
+sed -n '/^connections /,$p' "$work/report" | diff "$work/expected" - || { echo "check.sh: the clients of threaded.c that come one after another get something else"; wrong=1; }
+[ "$(sed -n 's/^[0-9]* [0-9]* 64 \(6[567]\) .*/\1/p' "$work/report" | tr '\n' ' ')" = '66 67 65 ' ] || { echo "check.sh: a silent client holds the others of threaded.c"; wrong=1; }
 echo 'varan-script 1' >"$work/script"
 
 # a stack that is full, at the size that the program is linked with

@@ -66,7 +66,7 @@ long poll_descriptors(struct pollfd *asked, long count, const int64_t *timeout, 
 long select_descriptors(long count, void *readable, void *writable, void *special, const int64_t *timeout, const uint64_t *mask);
 /* The kernel is told whether calls on this descriptor wait; one that has no call for it isn't asked again. */
 void set_waiting(long fd, bool waits_not);
-/* Whether the kernel has calls that wait for one of several descriptors, or for a time: where it isn't known, it is asked. */
+/* Whether the kernel has calls that wait for one of several descriptors, or for a time: it is asked once, by a poll with a bad time, which never waits. */
 bool kernel_polls(void);
 /* Waits until then, where the kernel has a call for it. */
 long sleep_until(long clock, long flags, const int64_t *time);

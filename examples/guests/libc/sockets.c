@@ -218,10 +218,11 @@ void set_waiting(long fd, bool waits_not)
 
 bool kernel_polls(void)
 {
+    static const int64_t bad_time[] = {0, -1};
     static bool is_asked;
     if (!is_asked) {
         is_asked = true;
-        known(KERNEL(SYS_ppoll_time64, 0, 0, (int64_t[2]){0}));
+        known(KERNEL(SYS_ppoll_time64, 0, 0, bad_time));
     }
     return !polls_not;
 }

@@ -7,7 +7,6 @@
  */
 #include "guest.h"
 #include <errno.h>
-#include <fcntl.h>
 #include <poll.h>
 #include <string.h>
 #include <sys/syscall.h>
@@ -17,12 +16,15 @@
 enum { WAIT = 0, WAKE = 1 };
 /* The kernel polls 408 descriptors. A thread that reads or accepts waits for one, and at most seven wait beside the one that polls. */
 enum { MOST_POLLED = 400, ALL_POLLED = 408 };
-enum { BILLION = 1000000000, YIELD = 10000000 };
+/* A hundredth of a second, and how often the turn is given away before the kernel is asked for those that wait for arrivals and times. */
+enum { BILLION = 1000000000, YIELD = 10000000, MOST_YIELDS = 100 };
 /* How often threads can go on once no client comes and nothing arrives any more. */
 enum { MOST_AFTER_END = 16 };
 
 /* In the order in which they began to wait. */
 static struct waiter *first, **last = &first;
+/* How often the turn was given away since the kernel was asked. */
+static int yields;
 
 /* ---- the turn */
 
@@ -192,6 +194,7 @@ static bool ask_for_all(void)
     int64_t end = earliest_end();
     if (!count && end == NEVER)
         return end_one();
+    yields = 0;
     long ready = ask(count, end);
     if (ready == -EINTR || (after_end && !ready))
         after_end++;
@@ -315,10 +318,11 @@ void let_others_go_on(void)
         wait_with_others(&(struct waiter){.can_go_on = true, .end = NEVER});
 }
 
-/* One that yields again and again waits for what others do. While these wait for arrivals, it asks for them a hundred times a second at most. */
+/* One that yields again and again waits for what others do. These may wait for arrivals: the kernel is asked for them, a hundred times a second at most. */
 long yield(void)
 {
-    if (!can_others_go_on() && (polled_by_others() || earliest_end() != NEVER))
+    bool others_wait = polled_by_others() || earliest_end() != NEVER;
+    if (others_wait && (!can_others_go_on() || ++yields > MOST_YIELDS))
         return wait_with_others(&(struct waiter){.end = now() + YIELD});
     let_others_go_on();
     return 0;
