@@ -22,7 +22,7 @@ import time
 
 HERE = pathlib.Path(__file__).resolve().parent
 KEEPER = {number: str(HERE / f"built/keeper_{number}") for number in (1, 2, 3)}
-LOOP = str(HERE / "built/loop_1")
+LOOP, SELECT_LOOP = str(HERE / "built/loop_1"), str(HERE / "built/loop_select")
 # With a thread for each client; the words for their stacks, and how many clients it serves at a time.
 PER_CLIENT = {number: str(HERE / f"built/per_client_{number}") for number in (1, 2)}
 STACKS, AT_A_TIME = ["--memory", "4194304"], 7
@@ -35,6 +35,8 @@ PATIENT = ["--idle", str(SECONDS)]
 PAUSE, PAUSES = 0.05, 4
 # The words for one whose clients may be silent, and seconds after which the server itself lets them go.
 ENDLESS, LET_GO = ["--idle", "0"], 4
+# Clients at once, where a ppoll has 408 descriptors.
+MORE_THAN_POLLED = 420
 # Nanoseconds: a second, and how long ago the time may have been told that a client gets.
 SECOND, TIME_STEP = 1_000_000_000, 1_000_000
 # What form 4 lets a run write to a client, and what may wait for one to read it.
@@ -803,13 +805,13 @@ def asked_time(rows, client, what):
     return told, answer
 
 
-def one_loop(rows, program):
+def one_loop(rows, program, loop=LOOP):
     """A server with one loop lets silent clients go in its time, whatever becomes of the command meanwhile. While nobody is there nothing is told."""
     folder = pathlib.Path(tempfile.mkdtemp(dir=Service.room))
     script = folder / "script"
     script.write_text(f"varan-script 5\nclock {int(time.time())} 0 0\narg {LET_GO}\n")
     words = ["--script", script]
-    service = Service(program, LOOP, options=ENDLESS, words=words, folder=folder)
+    service = Service(program, loop, options=ENDLESS, words=words, folder=folder)
     silent = service.connect()
     rows.same(service.ask("put colour green"), ["kept"], "a client beside a silent one")
     is_let_go(rows, silent, "a silent client")
@@ -823,7 +825,7 @@ def one_loop(rows, program):
     os.kill(service.serving(), signal.SIGKILL)
     is_let_go(rows, silent, "a silent client of a command that is killed")
     silent = service.connect()
-    rows.same(service.operate(f"join {LOOP} 0")[-1], "ok", "a version joins")
+    rows.same(service.operate(f"join {loop} 0")[-1], "ok", "a version joins")
     is_let_go(rows, silent, "a silent client of a version that joins")
     rows.same(service.ask("size"), ["3"], "the requests")
     rows.same([line for line in service.transcript().read_text().splitlines() if "wait" in line], [], "what stands of waits in the transcript")
@@ -831,7 +833,7 @@ def one_loop(rows, program):
     transcript = service.transcript()
     service.process.kill()
     service.process.wait()
-    resumed = Service(program, LOOP, LOOP, options=[*ENDLESS, "--resume", transcript], folder=folder)
+    resumed = Service(program, loop, loop, options=[*ENDLESS, "--resume", transcript], folder=folder)
     until(lambda: "caught up" in resumed.notes(), "it catches up")
     silent = resumed.connect()
     rows.same(resumed.ask("get colour", "size"), ["green", "5"], "the state of a service that was resumed")
@@ -841,6 +843,26 @@ def one_loop(rows, program):
     rows.same(resumed.end(), 0, "the status, with a silent client at the end")
     rows.same(silent.lines.readline(), "late\n", "a client that is silent at the end")
     rows.same((folder / "console").read_text(), "6 requests\n", "what the server writes in the end")
+
+
+def loop_over_select(rows, program):
+    """The same over select."""
+    one_loop(rows, program, SELECT_LOOP)
+
+
+def crowded(rows, program):
+    """One loop serves more clients at once than a ppoll has descriptors, over poll and over select."""
+    for loop in (LOOP, SELECT_LOOP):
+        folder = pathlib.Path(tempfile.mkdtemp(dir=Service.room))
+        script = folder / "script"
+        script.write_text(f"varan-script 5\narg {SECONDS}\n")
+        service = Service(program, loop, options=ENDLESS, words=["--script", script], folder=folder)
+        clients = [service.connect() for _ in range(MORE_THAN_POLLED)]
+        rows.same([client.ask("size") for client in clients], [[str(it + 1)] for it in range(MORE_THAN_POLLED)], "more clients at once than a ppoll has descriptors")
+        rows.same(clients[0].ask("put a b", "get a"), ["kept", "b"], "the first of them, once all are there")
+        for client in clients:
+            client.close()
+        rows.same(service.end(), 0, "the status, once they have left")
 
 
 def thread_for_each(rows, program):
@@ -1009,7 +1031,7 @@ def received(client):
 
 
 started = []
-TRIED = (joining, silent_client, handing, falling_back, breaking_and_leaving, letting_go, failing, reloading, permitted, told_metrics, killed_command, killed_all, resuming, left_copies, real_time, one_loop, thread_for_each, nearly_all_clients, unheard_port, closed_console, unread_console, made_folder, full_transcript, cut_answers)
+TRIED = (joining, silent_client, handing, falling_back, breaking_and_leaving, letting_go, failing, reloading, permitted, told_metrics, killed_command, killed_all, resuming, left_copies, real_time, one_loop, loop_over_select, crowded, thread_for_each, nearly_all_clients, unheard_port, closed_console, unread_console, made_folder, full_transcript, cut_answers)
 
 
 def main():
