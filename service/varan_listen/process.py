@@ -1,13 +1,12 @@
 """A process of the command, `varan serve --clients`."""
 import asyncio
-import collections
 import contextlib
 import ctypes
 import os
 import signal
 import time
 
-from varan_listen.streams import Lines, note
+from varan_listen.streams import Lines, Telling, note
 from varan_listen.transcript import Transcript
 from varan_listen.written import Written
 
@@ -27,9 +26,9 @@ def end_with_parent():
 class Process:
     """It is told what came to its run, and the operator's words `hand`, each at its place of what came; and what it says is heard."""
 
-    def __init__(self, process, lineup, transcript, said, written, is_behind):
+    def __init__(self, process, lineup, transcript, asked, said, written, is_behind):
         self.process, self.lineup, self.transcript, self.is_behind = process, lineup, transcript, is_behind
-        self.said, self.written = said, written
+        self.asked, self.said, self.written = asked, said, written
         self.versions, self.hands = lineup.versions, lineup.hands
         self.begun = time.monotonic()
         self.served_since = None if is_behind else self.begun  # by it, or by the one that it replaced meanwhile
@@ -42,36 +41,30 @@ class Process:
     async def begin(cls, command, lineup, transcript, is_behind):
         """Begins the command, in a session of its own, so that Ctrl-C ends varan-listen alone. SIGXFSZ stays ignored in it, as in Python: a file of the most size is a failed write then."""
         file = os.open(transcript, os.O_WRONLY | os.O_CREAT | os.O_EXCL, 0o666) if transcript else os.dup(2)
-        (said, saying), (written, writing) = os.pipe(), os.pipe()
+        (asking, asked), (said, saying), (written, writing) = os.pipe(), os.pipe(), os.pipe()
         try:
             process = await asyncio.create_subprocess_exec(
-                *command, stdin=asyncio.subprocess.PIPE, stdout=saying, stderr=writing,
-                start_new_session=True, restore_signals=False, preexec_fn=end_with_parent)
+                *command, stdin=asking, stdout=saying, stderr=writing, start_new_session=True, restore_signals=False, preexec_fn=end_with_parent)
         except OSError:
-            for it in (said, written, file):
+            for it in (asked, said, written, file):
                 os.close(it)
             raise
         finally:
-            os.close(saying)
-            os.close(writing)
-        return cls(process, lineup, Transcript(transcript, len(lineup.versions)), Lines(said), Written(written, file), is_behind)
-
-    def write(self, piece):
-        if not self.process.stdin.is_closing():
-            self.process.stdin.write(piece)
+            for it in (asking, saying, writing):
+                os.close(it)
+        return cls(process, lineup, Transcript(transcript, len(lineup.versions)), Telling(asked), Lines(said), Written(written, file), is_behind)
 
     async def feed(self, told):
         """Tells all that came, as fast as it is taken, and what comes meanwhile."""
         self.tell_hands()
-        with contextlib.suppress(OSError):
-            while self.fed < told.size:
-                if not (piece := told.at(self.fed, min(AT_ONCE, self.next_hand(told) - self.fed))):
-                    self.end("what came isn't whole")
-                    return
-                self.fed += len(piece)
-                self.write(piece)
-                self.tell_hands()
-                await self.process.stdin.drain()
+        while self.fed < told.size:
+            if not (piece := told.at(self.fed, min(AT_ONCE, self.next_hand(told) - self.fed))):
+                self.end("what came isn't whole")
+                return
+            self.fed += len(piece)
+            self.asked.write(piece)
+            self.tell_hands()
+            await self.asked.drain()
 
     def next_hand(self, told):
         """Up to where it is told what came before it is told the next word."""
@@ -81,29 +74,28 @@ class Process:
         """Tells the words that stand where it is."""
         while self.handed < len(self.hands) and self.hands[self.handed] == self.fed:
             self.handed += 1
-            self.write(HAND)
+            self.asked.write(HAND)
 
     def hand(self, place):
         """The operator says `hand` at this place of what came."""
         self.hands.append(place)
         self.tell_hands()
 
-    def tell(self, line, told):
-        """Tells the last line that came, unless `feed` has still to tell others."""
-        if self.fed + len(line) == told.size:
+    def tell(self, lines, told):
+        """Tells the last lines that came, unless `feed` has still to tell others."""
+        if self.fed + len(lines) == told.size:
             self.fed = told.size
-            self.write(line)
+            self.asked.write(lines)
 
     def is_full(self):
         """Whether it has much to take yet."""
-        return not self.feeding.done() or self.process.stdin.transport.get_write_buffer_size() > AT_ONCE
+        return not self.feeding.done() or self.asked.is_full()
 
     async def drain(self):
         """Waits until it has taken about all that it was told. One that was killed takes nothing more."""
         if not self.feeding.done():
             await asyncio.wait([self.feeding])
-        with contextlib.suppress(OSError):
-            await self.process.stdin.drain()
+        await self.asked.drain()
 
     def end(self, why):
         self.fault = self.fault or why
@@ -143,9 +135,16 @@ class Joining(Process):
 
     def __init__(self, *words):
         super().__init__(*words)
-        self.ahead = collections.deque()  # lines that the other one hasn't said yet
+        self.ahead = bytearray()  # lines that the other one hasn't said yet
         self.has_settled = False
         self.outcome = asyncio.get_running_loop().create_future()  # why it was given up, or None
+
+    def compare_ahead(self, lines):
+        """The other one says these lines. What this one has said of them is the same, or it is ended."""
+        size = min(len(lines), len(self.ahead))
+        if self.ahead[:size] != lines[:size]:
+            self.end(str(next(Parted(*pair) for pair in zip(self.ahead.splitlines(True), lines.splitlines(True)) if pair[0] != pair[1])))
+        del self.ahead[:size]
 
     def newly_ended(self, serving):
         """The first version that has ended here and not in the process that serves, and how; or None."""
@@ -153,3 +152,10 @@ class Joining(Process):
             it.transcript.learn()
         ends = self.transcript.ends.items()
         return next((f"{number} {self.versions[number]} ended: {end}" for number, end in ends if self.lineup.before[number] not in serving.transcript.ends), None)
+
+
+class Parted(Exception):
+    """A process says something else than was said."""
+
+    def __init__(self, line, said):
+        super().__init__(f"it says `{line.decode().strip()}` where the service said `{said.decode().strip()}`")

@@ -3,13 +3,13 @@
 What the guests say follows from what came. So a process that is told all that came comes to where the one before it was, and what it says shows whether it did.
 """
 import asyncio
-import contextlib
 import itertools
 import signal
 import time
 
 from varan_listen.past import Past
-from varan_listen.process import Joining, Process
+from varan_listen.process import Joining, Parted, Process
+from varan_listen.silences import Silences
 from varan_listen.streams import MOST_UNREAD, PATIENCE, note
 from varan_listen.written import SECOND
 
@@ -43,7 +43,7 @@ class Run:
         self.count = self.gone = 0  # of the clients that came, and of those that came to a run which this one goes on with
         self.is_past = False  # what the guests say was said in that run
         self.waiting, self.accepted, self.accepts = {}, {}, 0
-        self.silences = {}  # of the clients that haven't sent all, what looks whether they are silent too long
+        self.silences = Silences(self.patience, lambda: self.serving.served_for(), self.end_silent)
         self.closers, self.tasks = set(), set()
         self.closed = []  # by the guests, before they sent all; their ends are still to be told
         self.takes = True  # clients may come
@@ -83,10 +83,8 @@ class Run:
         is_over = not lines
         try:
             process.written.take()
-            for line in lines:
-                if process not in (self.serving, self.joining):
-                    break
-                self.take(process, line)
+            if lines and process in (self.serving, self.joining):
+                self.take(process, lines)
         except Exception as fault:  # whatever it is: what the process says next is worth nothing
             process.end(str(fault) or repr(fault))
             is_over = True
@@ -97,6 +95,7 @@ class Run:
     async def until_ended(self, process):
         """What follows the end of a process."""
         status = await process.process.wait()
+        process.asked.close()
         process.written.close()
         if process is self.joining:
             self.give_up(f"the command ended with status {status}: {process.last_words()}")
@@ -105,25 +104,36 @@ class Run:
         if process is not self.serving:
             process.transcript.close()
 
-    def take(self, process, line):
-        """A line that a process says: it was said before, or is said now, or is ahead of the process that serves."""
-        if process.heard < self.said.size:
-            if self.said.at(process.heard, len(line)) != line:
-                raise Parted(line, self.said.line_at(process.heard))
-        elif process is self.serving:
-            self.say(line)
+    def take(self, process, lines):
+        """Lines that a process says: they were said before, or are said now, or are ahead of the process that serves."""
+        size = max(min(len(lines), self.said.size - process.heard), 0)
+        if size:
+            self.compare(process, lines, size)
+        if process is self.serving:
+            self.say(lines[size:])
         else:
-            process.ahead.append(line)
-        process.heard += len(line)
-        process.heard_lines += 1
+            process.ahead += lines[size:]
+        process.heard += len(lines)
+        process.heard_lines += lines.count(b"\n")
         self.look(process)
 
-    def say(self, line):
+    def compare(self, process, lines, size):
+        """So much of these lines was said before."""
+        place = process.heard
+        if self.said.at(place, size) == lines[:size]:
+            return
+        for line in lines.splitlines(True):
+            if self.said.at(place, len(line)) != line:
+                raise Parted(line, self.said.line_at(place))
+            place += len(line)
+
+    def say(self, lines):
         """This is what the guests say next."""
-        if self.joining and self.joining.ahead and (ahead := self.joining.ahead.popleft()) != line:
-            self.joining.end(str(Parted(ahead, line)))
-        self.do(*line.decode().split())
-        self.said.add(line)
+        if self.joining and self.joining.ahead:
+            self.joining.compare_ahead(lines)
+        for line in lines.decode().splitlines():
+            self.do(*line.split())
+        self.said.add(lines)
 
     def is_there(self, process):
         """Whether a process was told all that came, and has said all that was said."""
@@ -219,8 +229,7 @@ class Run:
         self.serving, self.joining, self.is_joining = self.joining, None, False
         self.serving.served_since = old.served_since
         old.end("another one serves in its place")
-        while self.serving.ahead:
-            self.say(self.serving.ahead.popleft())
+        self.say(bytes(self.serving.ahead))
         self.wait(self.serving)
         self.counts.switches += 1
         note(f"these versions serve from now on: {' '.join(map(str, self.serving.versions))}")
@@ -264,13 +273,16 @@ class Run:
 
     def tell_lines(self, *lines):
         """Tells lines, and before them the ends of clients that the guests have closed since the ones before: no call waits for these."""
-        lines = [*(f"end {number}" for number in self.closed), *lines]
-        self.closed.clear()
-        piece = "".join(f"{line}\n" for line in lines).encode()
+        if self.closed:
+            lines = *(f"end {number}" for number in self.closed), *lines
+            self.closed.clear()
+        for line in lines:
+            self.counts.came[line.partition(" ")[0]] += 1
+        piece = "\n".join([*lines, ""]).encode()
         self.told.add(piece)
-        self.counts.came.update(line.partition(" ")[0] for line in lines)
-        for process in filter(None, (self.serving, self.joining)):
-            process.tell(piece, self.told)
+        self.serving.tell(piece, self.told)
+        if self.joining:
+            self.joining.tell(piece, self.told)
 
     def hand(self):
         """The operator says that the leader gives up the lead."""
@@ -292,10 +304,10 @@ class Run:
         if number >= self.gone:
             self.is_past, self.has_accepted = False, True
             client = self.accepted[number] = self.waiting.pop(number)
-            self.silences[number] = asyncio.get_running_loop().call_later(self.patience, self.end_silent, number)
             self.hear_client(number, client)
 
     def hear_client(self, number, client):
+        self.silences.hear(number)
         client.hear(lambda piece: self.take_from(number, client, piece))
 
     def take_from(self, number, client, piece):
@@ -303,6 +315,7 @@ class Run:
         if not piece:
             self.end_client(number, client)
             return
+        self.silences.hear(number)
         self.counts.received += len(piece)
         self.tell(*(f"data {number} {piece[at : at + MOST_BYTES].hex()}" for at in range(0, len(piece), MOST_BYTES)))
         if self.serving.is_full():
@@ -317,25 +330,20 @@ class Run:
     def end_client(self, number, client):
         """A client has sent all."""
         client.rest()
-        if silence := self.silences.pop(number, None):
-            silence.cancel()
+        if self.silences.end(number):
             self.tell(f"end {number}")
 
     def end_silent(self, number):
-        """Looks whether a client has been silent too long, and so has sent all. The time in which a process catches up doesn't count: the client may wait for an answer.
-        Where clients may be silent, none may any more once no more come."""
+        """A client was silent too long, and so has sent all. Where clients may be silent, none may any more once no more come."""
         client = self.accepted[number]
-        left = self.patience - min(client.loop.time() - client.heard, self.serving.served_for())
-        if left <= 0 and client.heed and (self.idle or not self.takes):
+        if client.heed and (self.idle or not self.takes):
             self.end_client(number, client)
-        else:
-            self.silences[number] = client.loop.call_later(left if left > 0 else self.patience, self.end_silent, number)
 
     def send(self, number, piece):
         if number >= self.gone:
             client = self.accepted[number]
             self.counts.sent += len(piece)
-            client.send(piece)
+            client.write(piece)
             if len(client.unsent) > MOST_UNREAD:
                 note(f"client {number} has more than {MOST_UNREAD:,} bytes to read, and is reset")
                 client.reset()
@@ -344,8 +352,7 @@ class Run:
     def close(self, number, is_cut=False):
         if number < self.gone:
             return
-        if silence := self.silences.pop(number, None):
-            silence.cancel()
+        if self.silences.end(number):
             self.closed.append(number)
         client = self.accepted.pop(number)
         if is_cut:
@@ -420,7 +427,7 @@ class Run:
         self.tell_end(status)
         self.stop_waiting()
         self.takes = False
-        self.serving.process.stdin.close()
+        self.serving.asked.close()
         if status == 0 and self.serving.written.has_failed:
             status = UNWRITTEN
         if status == UNWRITTEN:
@@ -435,10 +442,3 @@ class Run:
         for it in (self.serving.transcript, self.told, self.said):
             it.close()
         return status if status >= 0 else 128 - status
-
-
-class Parted(Exception):
-    """A process says something else than was said."""
-
-    def __init__(self, line, said):
-        super().__init__(f"it says `{line.decode().strip()}` where the service said `{said.decode().strip()}`")

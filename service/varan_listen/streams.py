@@ -2,6 +2,7 @@
 import asyncio
 import contextlib
 import fcntl
+import functools
 import os
 import queue
 import socket
@@ -9,6 +10,8 @@ import struct
 import sys
 import termios
 import threading
+
+from varan_listen.loop import poller
 
 # Bytes that may wait to be read: by a client, beside what the system keeps for it, and of the console.
 MOST_UNREAD = 16_777_216
@@ -35,72 +38,87 @@ def keep_standard_streams():
     return sys.stdout is not None
 
 
-class Client:
-    """A connection, and the guest's port that it is for. It is heard once a run has accepted it: what it sends before that stays where it is."""
+class Outlet:
+    """A descriptor that is written. What is written in one turn of the loop goes together, at its end; the rest as it is taken; and nothing once nobody takes it."""
 
-    def __init__(self, connection, port, counts):
-        self.connection, self.port, self.counts = connection, port, counts
-        self.number = connection.fileno()  # (the loop would look at a socket's addresses each time)
-        self.loop = asyncio.get_running_loop()
-        self.heed = None  # what is done with what comes
-        self.heard = self.loop.time()  # when something came last, or it was heard again
+    def __init__(self, number, loop):
+        self.number, self.poller = number, loop.poller
         self.unsent = bytearray()
         self.is_lost = False
+        self.when_sent = None  # what is done once all is sent
+
+    def write(self, piece):
+        if self.is_lost:
+            return
+        if not self.unsent:
+            self.poller.at_last(self.send_first)
+        self.unsent += piece
+
+    def send_first(self):
+        self.send()
+        if self.unsent or self.when_sent:
+            self.poller.write(self.number, self.send_on)
+
+    def send_on(self):
+        self.send()
+        if not self.unsent:
+            self.poller.write(self.number, None)
+            if self.when_sent:
+                self.when_sent()
+
+    def send(self):
+        """Sends what is taken now."""
+        try:
+            if self.unsent:
+                del self.unsent[: os.write(self.number, self.unsent)]
+        except BlockingIOError:
+            pass
+        except OSError:
+            self.lose()
+
+    def lose(self):
+        self.is_lost = True
+        self.unsent.clear()
+
+
+class Client(Outlet):
+    """A connection, and the guest's port that it is for. It is heard once a run has accepted it: what it sends before that stays where it is."""
+
+    def __init__(self, connection, port, counts, loop):
+        super().__init__(connection.fileno(), loop)
+        self.connection, self.port, self.counts, self.loop = connection, port, counts, loop
+        self.heed = None  # what is done with what comes
         self.closing = None  # what closes it where not all is sent in time
         self.was_left = False  # by a run that accepted nobody
-        self.gone = self.loop.create_future()
+        self.gone = loop.create_future()
         counts.connections += 1
 
     def hear(self, heed):
         """From now on this is done with what comes, and with nothing at the end."""
-        self.heed, self.heard = heed, self.loop.time()
-        self.loop.add_reader(self.number, self.take)
+        self.heed = heed
+        self.poller.read(self.number, self.take)
 
     def rest(self):
         """It isn't heard for a time, or any more."""
         if self.heed is not None:
             self.heed = None
-            self.loop.remove_reader(self.number)
+            self.poller.read(self.number, None)
 
     def take(self):
         try:
-            piece = self.connection.recv(MOST_TAKEN)
-        except (BlockingIOError, InterruptedError):
+            piece = os.read(self.number, MOST_TAKEN)
+        except BlockingIOError:
             return
         except OSError:
             piece = b""
-        self.heard = self.loop.time()
         self.heed(piece)
-
-    def send(self, piece):
-        """Sends this, or drops it where the client has left."""
-        if self.unsent:
-            self.unsent += piece
-        elif not self.is_lost and (rest := piece[self.sent_of(piece) :]):
-            self.unsent += rest
-            self.loop.add_writer(self.number, self.send_on)
-
-    def sent_of(self, piece):
-        """How many bytes of this are sent now: all of one who has left."""
-        try:
-            return self.connection.send(piece)
-        except (BlockingIOError, InterruptedError):
-            return 0
-        except OSError:
-            self.is_lost = True
-            return len(piece)
-
-    def send_on(self):
-        del self.unsent[: self.sent_of(self.unsent)]
-        if not self.unsent:
-            self.loop.remove_writer(self.number)
-            if self.closing:
-                self.shut()
 
     def close(self, patience):
         """Closes the connection once all is sent, or after so many seconds. It is gone then."""
         self.rest()
+        self.send()
         if self.unsent:
+            self.when_sent = self.shut
             self.closing = self.loop.call_later(patience, self.shut)
         else:
             self.shut()
@@ -133,11 +151,9 @@ class Client:
         self.rest()
         if self.closing:
             self.closing.cancel()
-        if self.unsent:
-            self.loop.remove_writer(self.number)
-            self.unsent.clear()
+        self.poller.write(self.number, None)
+        self.lose()
         self.connection.close()
-        self.is_lost = True
         self.counts.connections -= 1
         self.gone.set_result(None)
 
@@ -160,7 +176,7 @@ class Listener:
 
     def listen(self):
         if self.connection.fileno() >= 0:
-            self.loop.add_reader(self.connection, self.take)
+            self.loop.poller.read(self.connection.fileno(), self.take)
 
     def take(self):
         try:
@@ -170,19 +186,19 @@ class Listener:
         except OSError as fault:
             # (there may be too many connections)
             note(f"a client has to wait: {fault.strerror}")
-            self.loop.remove_reader(self.connection)
+            self.loop.poller.read(self.connection.fileno(), None)
             self.loop.call_later(RETRY, self.listen)
             return
         connection.setblocking(False)
         self.come(connection)
 
     def close(self):
-        self.loop.remove_reader(self.connection)
+        self.loop.poller.read(self.connection.fileno(), None)
         self.connection.close()
 
 
 class Lines:
-    """What comes over a pipe, line by line."""
+    """What comes over a pipe, whole lines of it."""
 
     def __init__(self, reader):
         self.reader = reader
@@ -191,20 +207,57 @@ class Lines:
 
     def follow(self, heed):
         """From now on this is done with lines that come, and with none at the end."""
-        asyncio.get_running_loop().add_reader(self.reader, self.take, heed)
+        poller().read(self.reader, functools.partial(self.take, heed))
 
     def take(self, heed):
         try:
             piece = os.read(self.reader, PIPE)
         except BlockingIOError:
             return
-        *lines, self.rest = (self.rest + piece).split(b"\n")
-        if lines or not piece:
-            heed([line + b"\n" for line in lines])
+        lines, newline, self.rest = (self.rest + piece).rpartition(b"\n")
+        if newline or not piece:
+            heed(lines + newline)
 
     def close(self):
-        asyncio.get_running_loop().remove_reader(self.reader)
+        poller().read(self.reader, None)
         os.close(self.reader)
+
+
+class Telling(Outlet):
+    """The end of a pipe that is written."""
+
+    def __init__(self, writer):
+        super().__init__(writer, asyncio.get_running_loop())
+        self.room = None  # a future of those who wait until all is sent
+        self.is_closed = False
+        os.set_blocking(writer, False)
+
+    def is_full(self):
+        """Whether much isn't taken now."""
+        if len(self.unsent) > PIPE:
+            self.send()
+        return len(self.unsent) > PIPE
+
+    async def drain(self):
+        """Waits until all is taken, if much isn't."""
+        if self.is_full():
+            self.when_sent = self.make_room
+            self.room = self.room or asyncio.get_running_loop().create_future()
+            await asyncio.wait([self.room])
+
+    def make_room(self):
+        self.room.set_result(None)
+        self.room = self.when_sent = None
+
+    def close(self):
+        if self.is_closed:
+            return
+        self.is_closed = True
+        self.lose()
+        self.poller.write(self.number, None)
+        os.close(self.number)
+        if self.room:
+            self.make_room()
 
 
 class Console:

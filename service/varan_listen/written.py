@@ -1,14 +1,15 @@
 """What a process writes on standard error: its transcript, and between the lines of it up to when its calls wait."""
-import asyncio
 import contextlib
 import os
 import re
 
+from varan_listen.loop import poller
 from varan_listen.streams import PIPE
 from varan_listen.transcript import ARRIVALS
 
 SECOND = 1_000_000_000
 WAIT = re.compile(rb"(?m)^# wait (\d+) (\d+)\n")
+ARRIVAL = re.compile(rb"\n(?:%b)" % b"|".join(ARRIVALS))
 
 
 class Written:
@@ -26,13 +27,15 @@ class Written:
 
     def follow(self, heed_wait, heed_taken):
         self.heed_wait, self.heed_taken = heed_wait, heed_taken
-        asyncio.get_running_loop().add_reader(self.reader, self.take)
+        poller().read_patiently(self.reader, self.take)
 
     def take(self):
         """Takes what is there: so what a process wrote before it said a line is in the file before the line is heeded."""
-        with contextlib.suppress(BlockingIOError):
+        try:
             if not self.is_over and not self.take_piece():
                 self.close()
+        except BlockingIOError:
+            pass
 
     def take_piece(self):
         """Whether there was a piece; there is none at the end."""
@@ -45,7 +48,7 @@ class Written:
             seconds, nanos = map(int, waits[-1])
             self.wait = seconds * SECOND + nanos
             self.heed_wait()
-        if taken := sum(line.startswith(ARRIVALS) for line in text.split(b"\n")):
+        if taken := len(ARRIVAL.findall(b"\n" + text)):
             self.taken += taken
             self.heed_taken()
         return piece
@@ -66,6 +69,6 @@ class Written:
                 pass
         self.is_over = True
         self.write(self.rest)
-        asyncio.get_running_loop().remove_reader(self.reader)
+        poller().read_patiently(self.reader, None)
         for it in (self.reader, self.file):
             os.close(it)
