@@ -7,7 +7,7 @@ ARRIVALS = (b"connect", b"data", b"end", b"line", b"input", b"time")
 OVER = (b"end clients\n", b"end input\n")
 # The transcript of a process that hasn't caught up has this at the end of its name: it lacks something that came.
 BEHIND = ".behind"
-SAID = re.compile(rb"(?m)^(?:(connect) \d+|hand (\d+)|# (\d+ of \d+ calls are made)|# version (\d) (?:leads from event (\d+)|rewrites (\d+) at .*|ended: (.*)))$")
+SAID = re.compile(rb"\n(?:hand (\d+)|# (\d+ of \d+ calls are made)|# version (\d) (?:leads from event (\d+)|rewrites (\d+) at .*|ended: (.*)))(?=\n)")
 LIMITS = ("fault calls", "fault budget")
 # The lines behind the one that tells why the process ended, and bytes that have them all.
 UNTAKEN = b"# not taken: "
@@ -40,10 +40,10 @@ class Transcript:
             self.learn_from(whole)
 
     def learn_from(self, lines):
-        for connect, hand, made, number, event, rewrites, end in SAID.findall(lines):
-            if connect:
-                self.connects += 1
-            elif hand:
+        lines = b"\n%b\n" % lines
+        self.connects += lines.count(b"\nconnect ")
+        for hand, made, number, event, rewrites, end in SAID.findall(lines):
+            if hand:
                 self.hands.append(int(hand))
             elif made:
                 self.news.append(made.decode())
