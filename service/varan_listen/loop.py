@@ -1,28 +1,29 @@
-"""asyncio's loop, and beside it what is read and written at each request: without a handle, a context and a place among what the loop does next."""
+"""asyncio's loop, and beside it what is read and written at each request: without a handle, a context and a turn of the loop for each."""
 import asyncio
-import functools
 import select
 import selectors
 import time
+from select import EPOLLIN, EPOLLOUT
 
-# Descriptors that are served after one look, and seconds for which those that can wait wake nobody.
-MOST_READY, LULL = 256, 0.001
+# Descriptors that are served after one look; seconds for which those that are patient wake nobody, and for which it waits at most.
+MOST_READY, LULL, LONGEST = 256, 0.001, 3600
 
 
 class Poller(selectors.EpollSelector):
-    """The selector of asyncio's descriptors. Others are served besides, each by what is done once it can be read or written; what is patient can wait for a lull."""
+    """The selector of asyncio's descriptors. Others are served besides, each by what is done once it can be read or written; those that are patient, in a lull."""
 
     def __init__(self):
         super().__init__()
         self.all, self.urgent = select.epoll(), select.epoll()
-        self.all.register(self.urgent, select.EPOLLIN)
-        self.urgent.register(self.fileno(), select.EPOLLIN)
-        self.readers = {self.urgent.fileno(): functools.partial(self.serve, self.urgent, 0), self.fileno(): self.take}
+        self.all.register(self.urgent, EPOLLIN)
+        self.urgent.register(self.fileno(), EPOLLIN)
+        self.readers = {self.urgent.fileno(): lambda: self.serve(self.urgent, 0), self.fileno(): self.take}
         self.writers = {}
         self.events = {}  # for which each is watched
-        self.taken = ()  # what asyncio has to serve itself
-        self.last = []
+        self.last = []  # what is done once, before it waits again
         self.looked = 0  # when it looked at all
+        self.taken = ()  # what asyncio has to serve itself
+        self.is_asked = False  # asyncio has something else to do
 
     def close(self):
         self.urgent.close()
@@ -30,32 +31,33 @@ class Poller(selectors.EpollSelector):
         super().close()
 
     def select(self, timeout=None):
-        """Waits, serves those that are ready, and returns what asyncio has to serve itself."""
-        while self.last:
-            self.heed(self.last.pop())
-        self.taken = ()
-        if time.monotonic() - self.looked < LULL:
-            lull = LULL if timeout is None else min(timeout, LULL)
-            if self.serve(self.urgent, lull) or lull == timeout:
+        """Waits and serves until asyncio has something to do, or for so long. What asyncio has to serve itself is returned."""
+        self.taken, self.is_asked = (), False
+        now = time.monotonic()
+        end = now + (LONGEST if timeout is None else timeout)
+        while True:
+            while self.last:
+                self.do(self.last.pop())
+            if now - self.looked < LULL:
+                self.serve(self.urgent, min(end - now, LULL))
+                now = time.monotonic()
+            else:
+                self.serve(self.all, end - now)
+                now = self.looked = time.monotonic()
+            if self.taken or self.is_asked or now >= end:
                 return self.taken
-            timeout = timeout and timeout - lull
-        self.serve(self.all, timeout)
-        self.looked = time.monotonic()
-        return self.taken
 
     def serve(self, them, timeout):
-        """Waits for so long, and serves those of them that are ready. Whether one was."""
-        ready = them.poll(timeout, MOST_READY)
-        for number, event in ready:
-            if event & ~select.EPOLLOUT and number in self.readers:
-                self.heed(self.readers[number])
-            if event & ~select.EPOLLIN and number in self.writers:
-                self.heed(self.writers[number])
-        return bool(ready)
+        """Waits for so long, and serves those of them that are ready."""
+        for number, event in them.poll(timeout, MOST_READY):
+            if event != EPOLLOUT and (act := self.readers.get(number)):
+                self.do(act)
+            if event != EPOLLIN and (act := self.writers.get(number)):
+                self.do(act)
 
     @staticmethod
-    def heed(act):
-        """Does this. A fault is asyncio's to report, as one in a handle."""
+    def do(act):
+        """Does this. A fault is asyncio's to report, as one of what it does itself."""
         try:
             act()
         except Exception as fault:
@@ -64,50 +66,55 @@ class Poller(selectors.EpollSelector):
     def take(self):
         self.taken = super().select(0)
 
-    def at_last(self, act):
-        """This is done once, before it waits again. It mustn't wake a task."""
-        self.last.append(act)
-
     def read(self, number, act):
         """From now on this is done when the descriptor can be read; nothing, if it is None."""
-        self.watch(number, act, self.readers, select.EPOLLIN)
+        self.watch(number, EPOLLIN, self.readers, act)
 
     def write(self, number, act):
         """From now on this is done when the descriptor can be written; nothing, if it is None."""
-        self.watch(number, act, self.writers, select.EPOLLOUT)
+        self.watch(number, EPOLLOUT, self.writers, act)
 
-    def watch(self, number, act, acts, event):
+    def watch(self, number, event, acts, act):
         before = self.events.get(number, 0)
-        if act is None:
-            acts.pop(number, None)
-            after = before & ~event
-        else:
+        if act:
             acts[number] = act
             after = before | event
-        if before == after:
+        elif acts.pop(number, None):
+            after = before & ~event
+        else:
             return
+        self.events[number] = after
         if not before:
             self.urgent.register(number, after)
         elif not after:
             self.urgent.unregister(number)
-        else:
+        elif before != after:
             self.urgent.modify(number, after)
-        self.events[number] = after
 
     def read_patiently(self, number, act):
         """As `read`, of what can wait."""
-        if act is None:
-            self.all.unregister(number)
-            del self.readers[number]
-        else:
+        if act:
             self.readers[number] = act
-            self.all.register(number, select.EPOLLIN)
+            self.all.register(number, EPOLLIN)
+        else:
+            del self.readers[number]
+            self.all.unregister(number)
 
 
 class Loop(asyncio.SelectorEventLoop):
+    """It tells its poller what it is asked to do meanwhile."""
+
     def __init__(self):
         self.poller = Poller()
         super().__init__(self.poller)
+
+    def call_soon(self, *words, **named):
+        self.poller.is_asked = True
+        return super().call_soon(*words, **named)
+
+    def call_at(self, *words, **named):
+        self.poller.is_asked = True
+        return super().call_at(*words, **named)
 
 
 def poller():

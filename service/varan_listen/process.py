@@ -107,6 +107,7 @@ class Process:
         now = time.monotonic()
         self.is_behind, self.served_since = False, self.served_since or now
         self.transcript.arrive()
+        self.written.heed_taken = None
         note(f"caught up after {now - self.begun:.3f} s, with {self.written.taken} lines taken")
 
     def served_for(self):

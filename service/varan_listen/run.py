@@ -3,6 +3,7 @@
 What the guests say follows from what came. So a process that is told all that came comes to where the one before it was, and what it says shows whether it did.
 """
 import asyncio
+import functools
 import itertools
 import signal
 import time
@@ -67,9 +68,9 @@ class Run:
         self.follow(self.serving)
 
     def follow(self, process):
-        process.written.follow(lambda: self.wait(process), lambda: self.look(process))
+        process.written.follow(lambda: self.wait(process), (lambda: self.look(process)) if process.is_behind else None)
         process.feeding = asyncio.create_task(process.feed(self.told))
-        process.said.follow(lambda lines: self.hear(process, lines))
+        process.said.follow(functools.partial(self.hear, process))
 
     @staticmethod
     def work(coroutine, tasks):
@@ -150,7 +151,7 @@ class Run:
 
     def look(self, process):
         """Whether a process has caught up. One that joins serves from now on, if no version of it has ended meanwhile."""
-        if not self.has_caught_up(process):
+        if process is self.serving and not process.is_behind or not self.has_caught_up(process):
             return
         if process is self.joining and process.has_settled and process.fault is None:
             if process.lineup.is_trial:
@@ -308,7 +309,7 @@ class Run:
 
     def hear_client(self, number, client):
         self.silences.hear(number)
-        client.hear(lambda piece: self.take_from(number, client, piece))
+        client.hear(functools.partial(self.take_from, number, client))
 
     def take_from(self, number, client, piece):
         """Tells what a client sends, or its end. A process that has much to take yet gets no more meanwhile."""
@@ -363,15 +364,15 @@ class Run:
 
     def do(self, word, *fields):
         """Does what a line of the command says."""
-        if word == "output":
-            if not self.is_past:
-                self.console.write(bytes.fromhex(fields[0]))
+        if word == "data":
+            self.send(int(fields[0]), bytes.fromhex(fields[1]))
         elif word == "accept":
             self.accept(int(fields[0]))
-        elif word == "data":
-            self.send(int(fields[0]), bytes.fromhex(fields[1]))
         elif word == "close":
             self.close(int(fields[0]))
+        elif word == "output":
+            if not self.is_past:
+                self.console.write(bytes.fromhex(fields[0]))
         else:
             raise ValueError(f"it says `{word}`")
         if not self.is_past:

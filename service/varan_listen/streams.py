@@ -1,6 +1,7 @@
 """The streams of varan-listen: connections, standard output, and what is said to the operator."""
 import asyncio
 import contextlib
+import ctypes
 import fcntl
 import functools
 import os
@@ -20,6 +21,7 @@ MOST_WAITING = 262_144
 PIPE = 65_536
 # Bytes of a client that are taken at once; connections that wait to be taken; and seconds until one is tried again that couldn't be.
 MOST_TAKEN, BACKLOG, RETRY = 64_000, 100, 1
+libc = ctypes.CDLL(None, use_errno=True)
 # Seconds in which what was written is taken at the end, where clients may be silent as long as they like.
 PATIENCE = 10
 
@@ -51,7 +53,7 @@ class Outlet:
         if self.is_lost:
             return
         if not self.unsent:
-            self.poller.at_last(self.send_first)
+            self.poller.last.append(self.send_first)
         self.unsent += piece
 
     def send_first(self):
@@ -84,9 +86,9 @@ class Outlet:
 class Client(Outlet):
     """A connection, and the guest's port that it is for. It is heard once a run has accepted it: what it sends before that stays where it is."""
 
-    def __init__(self, connection, port, counts, loop):
-        super().__init__(connection.fileno(), loop)
-        self.connection, self.port, self.counts, self.loop = connection, port, counts, loop
+    def __init__(self, number, port, counts, loop):
+        super().__init__(number, loop)
+        self.port, self.counts, self.loop = port, counts, loop
         self.heed = None  # what is done with what comes
         self.closing = None  # what closes it where not all is sent in time
         self.was_left = False  # by a run that accepted nobody
@@ -97,6 +99,7 @@ class Client(Outlet):
         """From now on this is done with what comes, and with nothing at the end."""
         self.heed = heed
         self.poller.read(self.number, self.take)
+        self.take()  # (most have sent something by now)
 
     def rest(self):
         """It isn't heard for a time, or any more."""
@@ -127,13 +130,13 @@ class Client(Outlet):
     async def cut(self, patience):
         """Resets the connection once the client has all that was sent, or closes it after so many seconds. So a client can tell an answer that was cut from one that ended."""
         self.rest()
-        with contextlib.suppress(OSError, ValueError, asyncio.TimeoutError):
+        with contextlib.suppress(OSError, asyncio.TimeoutError):
             await asyncio.wait_for(self.until_sent(), patience)
             self.linger_not()
         self.shut()
 
     async def until_sent(self):
-        while self.unsent or any(fcntl.ioctl(self.connection.fileno(), termios.TIOCOUTQ, bytes(4))):
+        while not self.gone.done() and (self.unsent or any(fcntl.ioctl(self.number, termios.TIOCOUTQ, bytes(4)))):
             await asyncio.sleep(0.01)
 
     def reset(self):
@@ -143,7 +146,10 @@ class Client(Outlet):
         self.shut()
 
     def linger_not(self):
-        self.connection.setsockopt(socket.SOL_SOCKET, socket.SO_LINGER, struct.pack("ii", 1, 0))
+        """Its end, where it isn't gone, will be a reset."""
+        if not self.gone.done():
+            with socket.socket(fileno=os.dup(self.number)) as connection:
+                connection.setsockopt(socket.SOL_SOCKET, socket.SO_LINGER, struct.pack("ii", 1, 0))
 
     def shut(self):
         if self.gone.done():
@@ -153,9 +159,18 @@ class Client(Outlet):
             self.closing.cancel()
         self.poller.write(self.number, None)
         self.lose()
-        self.connection.close()
+        os.close(self.number)
         self.counts.connections -= 1
         self.gone.set_result(None)
+
+
+def accept(listener):
+    """The number of the next connection, as accept4(2) has it. The method `accept` of a socket makes a socket of it, which asks the system what it is."""
+    number = libc.accept4(listener, None, None, socket.SOCK_NONBLOCK | socket.SOCK_CLOEXEC)
+    if number < 0:
+        fault = ctypes.get_errno()
+        raise OSError(fault, os.strerror(fault))
+    return number
 
 
 class Listener:
@@ -180,7 +195,7 @@ class Listener:
 
     def take(self):
         try:
-            connection, _ = self.connection.accept()
+            number = accept(self.connection.fileno())
         except (BlockingIOError, InterruptedError, ConnectionAbortedError):
             return
         except OSError as fault:
@@ -189,8 +204,7 @@ class Listener:
             self.loop.poller.read(self.connection.fileno(), None)
             self.loop.call_later(RETRY, self.listen)
             return
-        connection.setblocking(False)
-        self.come(connection)
+        self.come(number)
 
     def close(self):
         self.loop.poller.read(self.connection.fileno(), None)

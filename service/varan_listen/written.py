@@ -14,14 +14,14 @@ ARRIVAL = re.compile(rb"\n(?:%b)" % b"|".join(ARRIVALS))
 
 class Written:
     """What comes goes to a file, but for the lines `# wait S N`, of which the last is kept. Once a write has failed nothing more is written.
-    The arrivals are counted: a call that waits has taken all that came, since what doesn't end its wait is taken, too."""
+    The arrivals are counted until the process has caught up: a call that waits has taken all that came, since what doesn't end its wait is taken, too."""
 
     def __init__(self, reader, file):
         self.reader, self.file = reader, file
         self.rest = b""  # the beginning of a line that isn't whole
         self.wait = None  # the time that the last one tells, in nanoseconds
         self.taken = 0  # arrivals
-        self.heed_wait = self.heed_taken = None  # what is done where a wait comes, and where arrivals were taken
+        self.heed_wait = self.heed_taken = None  # what is done where a wait comes, and where arrivals were taken by one that catches up
         self.has_failed = self.is_over = False
         os.set_blocking(reader, False)
 
@@ -48,7 +48,7 @@ class Written:
             seconds, nanos = map(int, waits[-1])
             self.wait = seconds * SECOND + nanos
             self.heed_wait()
-        if taken := len(ARRIVAL.findall(b"\n" + text)):
+        if self.heed_taken and (taken := len(ARRIVAL.findall(b"\n" + text))):
             self.taken += taken
             self.heed_taken()
         return piece
