@@ -1,14 +1,15 @@
 #!/usr/bin/env python3
 """How fast a live run answers and fails over, and what it costs while nobody asks.
 
-    bench/live_speed.py [--program PATH] [--rounds N]
+    bench/live_speed.py [--program PATH] [--rounds N] [lines] [requests] [failovers] [idle]
 
-PATH is crates/varan/out/varan where it isn't given (build it first: `rt run` in crates/varan). All is taken in one run, on 127.0.0.1 and over pipes; 1, 2, 4
+PATH is crates/varan/out/varan where it isn't given (build it first: `rt run` in crates/varan); without a part all are run. All is taken in one run, on 127.0.0.1 and over pipes; 1, 2, 4
 and 8 equal versions, the same guest under qemu-riscv32, and for requests also varan-listen before a program that answers at once (live_answers.c), take turns
 in each of N rounds, 5 by default. It needs qemu-riscv32 (Debian: qemu-user) and cc.
 
 - A line: from its last byte, over a pipe to the service of lines, to the newline of its answer; two calls. Then how many a second are answered, sent at once.
 - A request: from connecting to the end of the answer, by varan-listen, one after the other; eleven calls. Then how many a second, eight clients beside each other.
+  And the processor's time of the process that listens, varan-listen or qemu, for each request of both kinds.
 - A failover: from the line at which the leader breaks, and the versions that lead after it, to that line's answer by the version that leads on; and the line after it.
 - The processor's time while nobody asks, of one processor.
 """
@@ -140,30 +141,40 @@ def wait_for(port):
         time.sleep(0.01)
 
 
+def processor_time(process):
+    """The processor's seconds that a process has had, by its clock (clock_getcpuclockid(3))."""
+    return time.clock_gettime(~process << 3 | 2)
+
+
 @contextlib.contextmanager
 def served(command, port, folder):
     process = subprocess.Popen(command, cwd=folder, stderr=subprocess.DEVNULL)
     try:
         wait_for(port)
-        yield
+        yield process.pid
     finally:
         process.send_signal(signal.SIGTERM)
         process.wait(SECONDS)
 
 
 def request_round(command, port, folder, wanted, found):
-    with served(command, port, folder):
+    with served(command, port, folder) as process:
         for _ in range(REQUESTS // 10):
             checked(request(port)[1], wanted)
+        times = [processor_time(process)]
         asked = [request(port) for _ in range(REQUESTS)]
+        times.append(processor_time(process))
         begun = time.perf_counter()
         with concurrent.futures.ThreadPoolExecutor(BESIDE) as pool:
             beside = list(pool.map(request, [port] * REQUESTS_BESIDE))
         took = time.perf_counter() - begun
+        times.append(processor_time(process))
     for _, got in asked + beside:
         checked(got, wanted)
     found["request"] += [seconds for seconds, _ in asked]
     found["a second"].append(REQUESTS_BESIDE / took)
+    found["processor"].append((times[1] - times[0]) / REQUESTS)
+    found["processor beside"].append((times[2] - times[1]) / REQUESTS_BESIDE)
 
 
 def set_up(folder):
@@ -182,7 +193,12 @@ def set_up(folder):
     return rest[: int(length)]
 
 
-def requests(program, rounds, folder):
+def requests(program, rounds):
+    with tempfile.TemporaryDirectory() as room:
+        requests_in(pathlib.Path(room), program, rounds)
+
+
+def requests_in(folder, program, rounds):
     wanted = set_up(folder)
     subprocess.run(["cc", "-O2", "-o", folder / "answers", TOP / "bench/live_answers.c"], check=True)
 
@@ -193,7 +209,7 @@ def requests(program, rounds, folder):
     cases = {str(k): lambda port, k=k: listening(port, *versions[k]) for k in COUNTS}
     cases["qemu"] = lambda port: ["qemu-riscv32", SERVER / "built/server_1", str(port)]
     cases["varan-listen alone"] = lambda port: listening(port, folder / "answers", wanted.hex())
-    found = {name: {"request": [], "a second": []} for name in cases}
+    found = {name: {"request": [], "a second": [], "processor": [], "processor beside": []} for name in cases}
     for _ in range(rounds):
         for name, command in cases.items():
             port = free_port()
@@ -201,6 +217,8 @@ def requests(program, rounds, folder):
     table("requests, versions", {
         "a request, ms: p50, p95": {name: quantiles(it["request"], 1e3) for name, it in found.items()},
         "requests a second, 8 clients": {name: f"{statistics.median(it['a second']):,.0f}" for name, it in found.items()},
+        "processor time of what listens, us a request: one after the other, 8 clients": {
+            name: f"{1e6 * statistics.median(it['processor']):.0f}, {1e6 * statistics.median(it['processor beside']):.0f}" for name, it in found.items()},
     })
 
 
@@ -225,35 +243,29 @@ def failovers(program, rounds):
     })
 
 
-def processor_time(process):
-    """The processor's seconds that a process has had."""
-    fields = pathlib.Path(f"/proc/{process.pid}/stat").read_text().rpartition(")")[2].split()
-    return (int(fields[11]) + int(fields[12])) / os.sysconf("SC_CLK_TCK")
-
-
-def idle(program):
+def idle(program, _):
     services = {str(k): Lines([program, "serve", *[GUESTS / "service_1"] * k]) for k in COUNTS}
     for it in services.values():
         it.ask(b"get colour\n", b"not there\n")
-    before = {name: processor_time(it.process) for name, it in services.items()}
+    before = {name: processor_time(it.process.pid) for name, it in services.items()}
     time.sleep(IDLE_SECONDS)
-    spent = {name: processor_time(it.process) - before[name] for name, it in services.items()}
+    spent = {name: processor_time(it.process.pid) - before[name] for name, it in services.items()}
     for it in services.values():
         it.end()
     table("while nobody asks, versions", {"% of a processor": {name: f"{100 * it / IDLE_SECONDS:.1f}" for name, it in spent.items()}})
+
+
+PARTS = {"lines": lines, "requests": requests, "failovers": failovers, "idle": idle}
 
 
 def main():
     reader = argparse.ArgumentParser(description="how fast a live run answers and fails over")
     reader.add_argument("--program", default=str(TOP / "crates/varan/out/varan"))
     reader.add_argument("--rounds", type=int, default=5)
+    reader.add_argument("part", nargs="*", help=", ".join(PARTS))
     asked = reader.parse_args()
-    program = os.path.abspath(asked.program)
-    with tempfile.TemporaryDirectory() as folder:
-        lines(program, asked.rounds)
-        requests(program, asked.rounds, pathlib.Path(folder))
-        failovers(program, asked.rounds)
-        idle(program)
+    for part in asked.part or PARTS:
+        PARTS[part](os.path.abspath(asked.program), asked.rounds)
 
 
 if __name__ == "__main__":

@@ -27,7 +27,7 @@ import time
 
 sys.dont_write_bytecode = True
 
-from live_speed import REQUEST, SECONDS, SERVER, TOP, free_port, request, set_up, table, wait_for
+from live_speed import REQUEST, SECONDS, SERVER, TOP, free_port, processor_time, request, set_up, table, wait_for
 
 COUNTS = (1, 2, 8)
 # Clients of the lines that are under way at once, and connections beside each other.
@@ -39,11 +39,6 @@ MOST_GROWTH = 1.05
 
 class Wrong(Exception):
     """Something is otherwise than it has to be."""
-
-
-def processor_time(process):
-    """The processor's seconds that a process has had, by its clock (clock_getcpuclockid(3))."""
-    return time.clock_gettime(~process << 3 | 2)
 
 
 def resident(process):
