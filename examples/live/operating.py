@@ -536,6 +536,35 @@ def falling_back(rows, program):
     rows.same(service.end(), 0, "the status after a break")
 
 
+def wrong_answer(rows, program):
+    """A version leads that answers wrongly what the past doesn't have: the right one is dropped, and can't join. Alone it is resumed from the transcript, and makes the right state of the same requests."""
+    folder = pathlib.Path(tempfile.mkdtemp(dir=Service.room))
+    wrong = folder / "wrong"
+    wrong.write_bytes(pathlib.Path(KEEPER[1]).read_bytes().replace(b"drop\0", b"dr0p\0"))
+    wrong.chmod(0o755)
+    service = Service(program, KEEPER[1], options=PATIENT, folder=folder)
+    client = service.connect()
+    rows.same(client.ask("put colour green", "say hello"), ["kept", "said"], "the past")
+    rows.same(service.operate(f"join {wrong}")[-1], "ok", "a version joins that answers wrongly what the past doesn't have")
+    rows.same(service.operate("hand")[-1], "ok", "the lead is to be handed over")
+    rows.same(client.ask("size", "drop colour", "get colour"), ["3", "what?", "green"], "its wrong answer, and the state after it")
+    until(lambda: service.roles() == [(KEEPER[1], "ended:"), (str(wrong), "leads")], "the right version is dropped")
+    answer = service.operate(f"join {KEEPER[1]}")[-1]
+    rows.holds(answer.endswith(f"it says `data 0 {b'dropped'.hex()}0a` where the service said `data 0 {b'what?'.hex()}0a`"), "the right version can't join", answer)
+    rows.same(service.operate(f"join {wrong}")[-1], "ok", "the version that leads joins once more, as its own follower")
+    client.close()
+    rows.same(service.operate("stop"), ["ok"], "the command stop")
+    rows.same(service.process.wait(SECONDS), 0, "the status after stop")
+
+    last = max(it for it in service.transcripts.iterdir() if not it.name.endswith(".behind"))
+    right = Service(program, KEEPER[1], options=["--resume", last], folder=folder)
+    rows.same(right.ask("get colour", "size"), ["not there", "7"], "the state by the right version, of the same requests and those after them")
+    rows.same(right.roles(), [(KEEPER[1], "leads")], "the right version leads")
+    rows.same(right.operate(f"join {KEEPER[3]}")[-1], "ok", "an update joins it")
+    rows.same(right.end(), 0, "its status")
+    rows.same((folder / "console").read_text(), "hello\n", "the console, once")
+
+
 def breaking_and_leaving(rows, program):
     """The operator is told of a break also if the process that reports it is replaced, or killed, at once."""
     service = Service(program, KEEPER[1], KEEPER[2], options=PATIENT)
@@ -1031,7 +1060,7 @@ def received(client):
 
 
 started = []
-TRIED = (joining, silent_client, handing, falling_back, breaking_and_leaving, letting_go, failing, reloading, permitted, told_metrics, killed_command, killed_all, resuming, left_copies, real_time, one_loop, loop_over_select, crowded, thread_for_each, nearly_all_clients, unheard_port, closed_console, unread_console, made_folder, full_transcript, cut_answers)
+TRIED = (joining, silent_client, handing, falling_back, wrong_answer, breaking_and_leaving, letting_go, failing, reloading, permitted, told_metrics, killed_command, killed_all, resuming, left_copies, real_time, one_loop, loop_over_select, crowded, thread_for_each, nearly_all_clients, unheard_port, closed_console, unread_console, made_folder, full_transcript, cut_answers)
 
 
 def main():
