@@ -3,11 +3,11 @@
 `nv_cli::varan_over`, the same over the streams of a live run; and `nv_cli::program`, which `main` calls.
 
     .ci/headline.py            compares them with crates/nv_cli/specs/Headline.antt and with the number in README.md, and the names on docs/DEFINITIONS.md with the definitions
-    .ci/headline.py --write    writes them there: Headline.antt after its line MORE, the number
+    .ci/headline.py --write    writes them there: Headline.antt behind its line MORE, the number
     .ci/headline.py --why X    says by which definitions the clauses come to X
     .ci/headline.py --inner    lists the definitions that no contract cites, and those that contracts of private functions alone cite
 
-Headline.antt is imports alone: first those in reading order, with what they say, and after the line MORE all others, by crate and file.
+Headline.antt is imports alone, one file of specs/ a line, under a heading for each theme that says where to begin.
 """
 import re
 import sys
@@ -17,7 +17,20 @@ from definitions import ROOT, House, imports_of, read, whole
 
 TOP = [("nv_cli", "top", "varan"), ("nv_cli", "top", "varan_over"), ("nv_cli", "process", "program")]
 HEADLINE, PAGE, README = "crates/nv_cli/specs/Headline.antt", "docs/DEFINITIONS.md", "README.md"
-MORE = "-- And what these stand on, by crate and file. (.ci/headline.py --write makes the lines from here on.)"
+MORE = "-- All of them, by theme. (.ci/headline.py --write makes the lines from here on.)"
+# The themes, in the order in which a reader may take them: a heading, where to begin, and the crates.
+THEMES = [
+    ("What a command has to do: words and files", "begin with `IsDue` of nv_driver's Due, which has a case for each command; a live run's streams are `Lived` of Live",
+     "nv_cli nv_driver nv_command nv_outside"),
+    ("The monitor: leader, followers, rules", "begin with `Run` of nv_replay's Monitor and `Account` of Sequence; a rule's verdict is nv_rules' `verdict_of`",
+     "nv_replay nv_rules nv_bpf"),
+    ("The kernel: calls, files, sockets, what arrives", "begin with `serve_next` of nv_arriving's Arriving, then `serve` of nv_sockets' and of nv_kernel's Serving",
+     "nv_calls nv_script nv_arrivals nv_live nv_blocks nv_fs nv_kernel nv_sockets nv_arriving"),
+    ("The guest: instructions, memory, threads", "begin with `effect` of nv_machine's Guest and the table of instructions (nv_isa's Table), then nv_threads",
+     "nv_threads nv_guest nv_elf nv_machine nv_memory nv_isa"),
+    ("The texts: reports, traces, assemblers, made runs", "begin with `report_text` of nv_report's Report",
+     "nv_report nv_trace nv_inspect nv_asm nv_bpf_asm nv_gen nv_text nv_bytes"),
+]
 # the heading of the page's last list
 UNCITED = "\n## What these clauses don't cite\n"
 COUNT = re.compile(r"\*\*[\d,]+\*\* definitions")
@@ -66,15 +79,27 @@ def imported(house, text):
 
 def more_imports(house, definitions, first):
     """The imports of these, each by its own name, or with its crate's and file's where another has that name."""
-    taken, lines = {here for _, _, names, _ in imports_of(first) for _, here in names or []}, []
+    taken, lines = {here for _, _, names, _ in imports_of(first) for _, here in names or []}, {}
     for crate, module, found in by_file(house, definitions):
         names = []
         for it in found:
             here = next(name for name in (it.name, f"{crate}_{it.name}", f"{crate}_{module.replace('.', '_')}_{it.name}") if name not in taken)
             taken.add(here)
             names.append(it.name if here == it.name else f"{it.name} as {here}")
-        lines.append(f"use Rattle.{crate}.specs.{module}.{{{', '.join(names)}}}")
-    return lines
+        lines.setdefault(crate, []).append(f"use Rattle.{crate}.specs.{module}.{{{', '.join(names)}}}")
+    return by_theme(lines)
+
+
+def by_theme(lines):
+    """The lines of each crate under the heading of its theme."""
+    missing = sorted(set(lines) - {crate for _, _, crates in THEMES for crate in crates.split()})
+    if missing:
+        sys.exit(f"headline: no theme has {', '.join(missing)}")
+    text = []
+    for heading, begin, crates in THEMES:
+        text += [f"-- ---- {heading}", f"-- {begin[0].upper()}{begin[1:]}."]
+        text += [line for crate in crates.split() for line in lines.get(crate, [])]
+    return text
 
 
 def entries(text):

@@ -2,7 +2,6 @@
 //! Types: `Arrival`, `ArrivalCause`, `Order`, `Said`; the trait `Outside`. Functions: `read` and `put_line` (an arrival's line each way), `piece` (plain input cut into arrivals).
 //! Proved: a line is read and written exactly, and what was written is read back; `Order` takes what may come after what came;
 //! plain input is cut at each newline and after 2,000 bytes.
-//! Above: scripts.
 #![tactic(auto)]
 
 mod arrival;

@@ -2,7 +2,6 @@
 //! Types: `AsmCause`, `AsmFault`; function `assemble`; specs/Assembled is the language's meaning.
 //! Proved: `assemble` gives the program of the text, or the least faulty line with its first cause; `nv_elf::write` takes
 //! every such program.
-//! Above: the commands.
 #![tactic(auto)]
 
 mod assembling;

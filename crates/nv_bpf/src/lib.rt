@@ -2,7 +2,6 @@
 //! Types: `Op`, `Action`, `Filter`, `FilterFault`.
 //! Proved: `verify` and `read` accept just the filters of the definition, else give the first fault; what `write` writes is
 //! read back.
-//! Above: the rules' values, a version, the filter assembler, the commands.
 #![tactic(auto)]
 
 mod action;

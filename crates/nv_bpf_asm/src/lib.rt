@@ -1,7 +1,6 @@
 //! The assembler of filters: a rule text to a filter, or its first faulty line.
 //! Types: `RuleCause`, `RuleFault`; function `assemble`; specs/Assembled is the language's meaning.
 //! Proved: `assemble` gives the filter of the text, or the first fault in order with its line.
-//! Above: the commands.
 #![tactic(auto)]
 
 mod assembling;

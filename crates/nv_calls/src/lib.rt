@@ -1,7 +1,6 @@
 //! System calls, their replies, and the log of both.
 //! Types: `Syscall` and `Slot` (the table of calls), `Call`, `Reply`, `Event`, `Bytes`.
 //! Proved: the table's functions give the table's rows, and `same` and `shaped` are their definitions.
-//! Above: nearly every crate.
 #![tactic(auto)]
 
 mod answers;

@@ -2,7 +2,6 @@
 //! Functions: `varan`; `varan_over`, over the streams of a live run; `varan_calmly`, over files and a sink that never fail; specs/Headline lists all that is to be believed.
 //! Proved, if it returns: the clauses `answers`, `completes` and `rejects`, which stand on one page, nv_driver/specs/Due.
 //! `run`, `record` and `gen` have their versions on threads that wait for each other: that these return isn't proved.
-//! Above: the program, tests, examples.
 #![tactic(auto)]
 
 mod beside;

@@ -1,7 +1,6 @@
 //! The harness of the top call: it runs over files and a sink in memory, with version files of a few words.
 //! Types: `Outside`, `Answered`; functions `monitor`, `monitor_through`.
 //! Proved: that nothing undefined is done; what is answered is compared by those that stand on it.
-//! Above: rows, examples, tests of the top call.
 #![tactic(auto)]
 
 mod call;

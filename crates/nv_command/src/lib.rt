@@ -2,7 +2,6 @@
 //! Types: `Command`, and its parts `Run`, `ScriptFile`, `Service`, `Job`, `Tool`, `Trail`, `Look`, `Point`, `Limits`; `Name`; `LineFault`.
 //! Proved: `read` gives the command that the words ask for, or that they are refused, as specs/Words defines; memory is
 //! wanted only after a command's name. `help_text` gives what `usage` writes, as specs/Help has it.
-//! Above: the commands.
 #![tactic(auto)]
 
 mod asked;

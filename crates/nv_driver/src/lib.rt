@@ -2,7 +2,6 @@
 //! Types: `Task`, `Prepared`, `LivePrepared`, `Refusal`, `Place`, `Cause`, `Ending`; function `answer_alone`.
 //! Proved: the first file in order that can't be read or is refused is named; `asm`, `rules`, `replay`, `inspect`, `usage` and
 //! refused words are answered as they are owed, without waiting; each ending says its text with its status.
-//! Above: the top call.
 #![tactic(auto)]
 
 mod answering;

@@ -2,7 +2,6 @@
 //! Types: `FileSystem`, `Opened`; module `parts`: parts of bytes, and bytes for which there is memory.
 //! Proved: each call gives the answer, the bytes and the state of its definition; the `reserve_` calls change nothing that
 //! can be seen, and the call after them can't fail; what was let go of the console is still part of it in contracts.
-//! Above: both kernels, inspection.
 #![tactic(auto)]
 
 mod closing;

@@ -1,7 +1,6 @@
 //! Large runs from a number: version files, script and rules, and the line that sums a run up.
 //! Types: `Made`, `Totals`; functions `make`, `summary`.
 //! Proved: `make` gives the files of the number as specs/Made and Programs define them; `summary` gives its line.
-//! Above: its laws, the commands.
 #![tactic(auto)]
 
 mod code;

@@ -2,7 +2,6 @@
 //! Functions: one a law; their contracts are the laws.
 //! Proved: each version makes its defined course of calls, ends as the number says and fits the usual memory; the script
 //! and the filter are accepted.
-//! Above: the command `gen`.
 #![tactic(auto)]
 
 mod laws;

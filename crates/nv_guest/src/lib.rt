@@ -2,7 +2,6 @@
 //! Types: `Guest`, `Asked`, `GuestFault`.
 //! Proved: `make` is the definition of a loaded program; `call_of` gives the call that registers and memory spell, which is
 //! shaped, or that a range of it isn't the guest's; `answer` stores an answer's bytes where they may be written.
-//! Above: the process.
 #![tactic(auto)]
 
 mod answers;

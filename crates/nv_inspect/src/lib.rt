@@ -3,7 +3,6 @@
 //! Types: `TracePoint`; functions `bring`, `kernel_after`, `show`, `put_end`; specs/Points and Shown have what they mean.
 //! Proved: the version and the kernel are the definition's after just those events or instructions; `show` writes just that
 //! text, without memory.
-//! Above: the commands.
 #![tactic(auto)]
 
 mod descriptors;

@@ -1,7 +1,6 @@
 //! The instructions of RV32IMA: a word read as an instruction, an instruction written as a word (RISC-V manual, chapter 24).
 //! Types: `Op`, `Form`, `Insn`; specs/Table has the rows.
 //! Proved: `decode` is the table, and nothing off it; `encode` is its inverse both ways; no word belongs to two rows.
-//! Above: the machine, the assembler, made runs.
 #![tactic(auto)]
 
 mod decoding;

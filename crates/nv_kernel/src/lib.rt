@@ -2,7 +2,6 @@
 //! Types: `Answers`, `FromScript`, `KeepsAll` and `Foretold` (traits of what answers), `Kernel`; `Devices`, which answers over what a script gives, and `ScriptKernel` over it.
 //! Proved: over whatever answers by its definition a kernel meets the laws of `SyscallKernel`; the devices do, with the definition of every call
 //! (`serve`); a call for which `reserve` took the memory can't fail.
-//! Above: the kernel with sockets, a version's constant replies.
 #![tactic(auto)]
 
 mod answers;

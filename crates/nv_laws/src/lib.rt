@@ -3,7 +3,6 @@
 //! Proved: the tables of files stay sound; what is made takes no number in use; a close frees just what nothing else holds; a
 //! call on a descriptor changes no other open file, file or pipe; what a socket answers, the kernel without sockets refuses
 //! with an error; a constant reply is given in every state; what calls say outside is what a report has.
-//! Above: nothing; they are there to be read.
 #![tactic(auto)]
 
 mod files;

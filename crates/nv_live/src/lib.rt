@@ -7,7 +7,6 @@
 //! what is said stands in its sink, in order, as bytes for the console or as lines, or a prefix where its count of faults rose; once that or the
 //! source has stopped nothing more comes; the leader is told to hand over at most once for each line `hand`, and only at a length that the transcript, as a
 //! script, can have. Law: behind the text of a script the transcript's lines are the script with these arrivals and lengths.
-//! Above: the kernel that takes arrivals, the commands, the program.
 #![tactic(auto)]
 
 mod buffer;

@@ -2,7 +2,6 @@
 //! Types: `Regs`, `FaultKind`, `Stepped`, `Went`.
 //! Proved: `step` is the definition of one instruction, with its faults in their order; after a call or a fault nothing
 //! has changed. `execute` is that of an instruction at hand, with its address apart from the registers.
-//! Above: the guest.
 #![tactic(auto)]
 
 mod alu;

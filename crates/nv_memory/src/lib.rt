@@ -2,7 +2,6 @@
 //! Types: `Width`, `Access`, `Right`, `Region`, `Memory`.
 //! Proved: a load, store or copy is that of the list of bytes; it is refused where no region has the range with the right,
 //! and then nothing has changed; an instruction that is known, by its address or its place, is what its word spells.
-//! Above: the machine and the guest.
 #![tactic(auto)]
 
 mod bytes;

@@ -2,7 +2,6 @@
 //! Types: `Lower`; functions `retire`, `close`, `leave`, `hand`, `lower_gone`, `take`.
 //! Proved: each does what its clause says; who takes the lead has seen the whole log, and who handed over reads on with all
 //! that it has seen.
-//! Above: workers.
 #![tactic(auto)]
 
 mod gives;

@@ -2,7 +2,6 @@
 //! Types: `Fate`, `Spans`, `Standing`, `Version`, `Followed`, `Led`, `Account`.
 //! Proved: `follow`, `lead` and `answered` are one step of the definitions of following and leading, `follow_all` is the
 //! whole of following. specs/Sequence and Monitor define the sequential monitor, which no function here runs.
-//! Above: workers, the plain monitor, report, inspection, the commands.
 #![tactic(auto)]
 
 mod account;

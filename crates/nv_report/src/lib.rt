@@ -1,7 +1,6 @@
 //! The report of a run as text and as JSON: console, log, and how each version ended.
 //! Functions: `write`, `json`, `put_event`, `put_fate`, `put_hex`; specs/Report and Json have the texts.
 //! Proved: `write` writes just the report's text, without memory; `json` gives just the text of its JSON form.
-//! Above: inspection, the commands.
 #![tactic(auto)]
 
 mod events;

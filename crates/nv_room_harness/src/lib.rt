@@ -2,7 +2,6 @@
 //! In a run each version leads in its turn, and the others read.
 //! Types: `Script`, what the stations publish and when they lead.
 //! Proved: the conditions of the room's steps hold.
-//! Above: the room's tests, the ring's benchmark.
 #![tactic(auto)]
 
 mod calls;

@@ -1,7 +1,6 @@
 //! What a filter says of a follower's call that isn't the event's.
 //! Types: `Pair`, `Verdict`.
 //! Proved: `value` is the filter's value on the pair; `verdict` is the table of verdicts.
-//! Above: a version.
 #![tactic(auto)]
 
 mod judging;

@@ -3,7 +3,6 @@
 //! Proved: `read` gives what a script says, or its first faulty line with the first cause; a script that is accepted keeps
 //! to the stated limits. Laws: a script of form 5 and the lines of what comes after it are a script, and so are it and the line of
 //! one more length to hand over at that it can have; nothing comes in one of forms 1 to 3, and form 5 alone has its calls.
-//! Above: both kernels, the commands.
 #![tactic(auto)]
 
 mod draft;

@@ -2,7 +2,6 @@
 //! Types: `Turned`; function `run`.
 //! Proved: `run` gives the sequential monitor's account for every kernel and filter, from what the kernel was made over where that
 //! tells how it goes on.
-//! Above: tests, which compare the workers with it; no command calls it.
 #![tactic(auto)]
 
 mod leading;

@@ -2,7 +2,6 @@
 //! Types: `SyscallKernel`, `Recorded` (one that keeps all that it did), `Scripted`.
 //! A kernel's laws are clauses of the trait: the log grows by just the call served, with the reply that what the kernel knows
 //! gives, and what it learns from outside changes nothing that was served.
-//! Above: kernels, the room, runs and what tells of them.
 #![tactic(auto)]
 
 mod kernel;

@@ -2,7 +2,6 @@
 //! Types: `Connection` with its `Inbox`, `SocketKernel`; below it `Host`, `Outcome` and `Did` (what a call did outside), `Sockets`, `Socket` and `Waiting`, on which kernels stand.
 //! Proved: it meets the laws of `SyscallKernel` with the definition of serving with sockets; `write_connections` writes
 //! just the text of what each connection was sent; a connection that the guests have closed may be let go, and no other.
-//! Above: the commands.
 #![tactic(auto)]
 
 mod accepting;

@@ -2,7 +2,6 @@
 //! Types: `Lines`, `Line`, `Names`.
 //! Proved: each line comes once, in order, with how many are before it; fields, words and operands are their definitions;
 //! numbers and hexadecimal texts are read and written exactly.
-//! Above: scripts, filters, both assemblers, the command line, rows.
 #![tactic(auto)]
 
 mod fields;

@@ -2,7 +2,6 @@
 //! Types: `TraceFault`, `CheckFault`; functions `write`, `read`, `check`.
 //! Proved: `write` writes the log's trace, `read` gives the log of which the bytes are the trace, or the first fault; no
 //! trace begins another. `check` accepts just the logs that the kernel would answer so.
-//! Above: retracing, the commands.
 #![tactic(auto)]
 
 mod checking;

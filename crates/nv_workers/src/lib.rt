@@ -3,7 +3,6 @@
 //! Proved, if it returns: the log and the standings are the sequential monitor's with the room's planned lengths and those at
 //! which leaders handed over on demand, whichever thread took which turn, from what the kernel was made over where that tells how
 //! it goes on; the spans of all versions cover the log.
-//! Above: the top call.
 #![tactic(auto)]
 
 mod dealing;
