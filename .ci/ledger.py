@@ -3,11 +3,12 @@
 ledger, .ci/edits.ledger.
 
 A line of the ledger is `CRATE/EDIT OWN BELOW WHAT`: an edit that was tried by hand, two sums of what it was tried on, and what refused it, of what counts by
-.ci/edits.py. OWN is of the edit and of its crate's src/ and specs/, BELOW of the specs/ of all crates below. `.ci/by_hand.py NAME ..` writes the lines of the edits
-that it tries, and removes those of edits that didn't count.
+.ci/edits.py. OWN is of the edit and of its crate's src/ and specs/, BELOW of the specs/ of all crates below, each without the lines that are comments alone.
+`.ci/by_hand.py NAME ..` writes the lines of the edits that it tries, and removes those of edits that didn't count.
 
 An edit is stale if it has no line, or if one of its sums has changed. The check prints how many are. It fails if OWN has changed: the crate is someone's who can
 try its edits. It fails as well if a line can't be read, or names no edit that is tried by hand, or has something that doesn't count.
+With --list it first names each edit, crate by crate, as one that the gate tries, that the ledger has, or that is stale.
 Status: 0, or 1 if it fails.
 """
 import dataclasses
@@ -51,6 +52,11 @@ def sum_of(parts):
     return whole.hexdigest()[:16]
 
 
+def without_comments(text):
+    """A text of Rattle without the lines that are comments alone."""
+    return b"".join(line for line in text.splitlines(keepends=True) if not line.lstrip().startswith((b"//", b"--")))
+
+
 class Sums:
     """The sums of a repository's crates, as its files are."""
 
@@ -66,7 +72,7 @@ class Sums:
             for file in files:
                 if file.endswith(kind) and file != READING_LIST:
                     with open(f"{place}/{file}", "rb") as text:
-                        yield f"{crate}/{part}/{os.path.relpath(f'{place}/{file}', folder)}", text.read()
+                        yield f"{crate}/{part}/{os.path.relpath(f'{place}/{file}', folder)}", without_comments(text.read())
 
     def crates_below(self, crate):
         """All of the repository's crates that a crate uses, and those that these use."""
@@ -144,6 +150,18 @@ def compare(text, by_gate, by_hand, sums):
     return wrong, said
 
 
+def listed(text, by_gate, by_hand, sums):
+    """A line for each crate with edits, which names them by who tries them."""
+    lines = lines_in(text)[0]
+    kinds = {name: "gate" for name in by_gate}
+    for name in by_hand:
+        line = lines.get(name)
+        kinds[name] = "ledger" if line and (line.own, line.below) == sums.of(name) else "stale"
+    for crate in sorted({name.partition("/")[0] for name in kinds}):
+        of_kind = {kind: [name.partition("/")[2] for name in sorted(kinds) if name.startswith(f"{crate}/") and kinds[name] == kind] for kind in ("gate", "ledger", "stale")}
+        yield f"{crate}: " + "; ".join(f"{kind}: {' '.join(names)}" for kind, names in of_kind.items() if names)
+
+
 def content(path):
     """The text of a file; nothing if there is no such file."""
     if not os.path.isfile(path):
@@ -161,6 +179,9 @@ def write(tried):
 
 def main():
     by_gate, by_hand = edits.edits_of("crates").keys(), edits.edits_of("crates", edits.BY_HAND).keys()
+    if sys.argv[1:] == ["--list"]:
+        for line in listed(content(LEDGER), by_gate, by_hand, Sums(".")):
+            print(f"ledger.py: {line}")
     wrong, said = compare(content(LEDGER), by_gate, by_hand, Sums("."))
     for it in wrong:
         print(f"ledger.py: {it}")

@@ -40,6 +40,9 @@ CHANGES = [
     ({"crates/mid/out/src/lib.rt": "fn made() {}\n"}, [], (2, 0, 0, 0)),
     ({"crates/mid/src/notes.txt": "notes\n"}, [], (2, 0, 0, 0)),
     ({"crates/high/specs/Headline.antt": "use mid\n"}, [], (2, 0, 0, 0)),
+    # lines that are comments alone
+    ({"crates/mid/src/lib.rt": "// A number.\nfn mid() -> u32 { 1 }\n"}, [], (2, 0, 0, 0)),
+    ({"crates/mid/specs/Mid.antt": "  -- a number\nmid : 2\n", "crates/low/specs/Low.antt": "low : 1\n-- one\n"}, [], (2, 0, 0, 0)),
     # the edit's own crate: its code, its definitions, their names, and the edit
     ({"crates/mid/src/lib.rt": "fn mid() -> u32 { 1 } // one\n"}, [AT_WRONG], (1, 0, 0, 1)),
     ({"crates/mid/src/more/part.rt": None}, [AT_WRONG], (1, 0, 0, 1)),
@@ -79,6 +82,12 @@ TRIED = [
     ({WRONG: "NOT TRIED: its check was killed"}, set(), {LATE: edits.RULE}),
     ({"mid/another": AT_CLAUSE}, set(), {WRONG: edits.RULE, LATE: edits.RULE}),
     ({}, set(), {WRONG: edits.RULE, LATE: edits.RULE}),
+]
+# What --list names once both edits have a line and these files changed.
+LISTED = [
+    ({}, ["high: ledger: late", "mid: gate: at_gate; ledger: wrong"]),
+    ({"crates/mid/specs/Mid.antt": "mid : 3\n"}, ["high: stale: late", "mid: gate: at_gate; stale: wrong"]),
+    ({"crates/low/must-fail-by-hand/new.edit": "file: src/lib.rt\n"}, ["high: ledger: late", "low: stale: new", "mid: gate: at_gate; ledger: wrong"]),
 ]
 
 
@@ -126,6 +135,14 @@ def faults():
             made(top, FILES)
             if not is_as_wanted(found := said_of(top, text.format(**lines_of(top))), wanted, counts):
                 yield f"{text!r}: {found}"
+    for changes, wanted in LISTED:
+        with tempfile.TemporaryDirectory() as top:
+            made(top, FILES)
+            text = "{wrong}\n{late}\n".format(**lines_of(top))
+            made(top, changes)
+            by_gate, by_hand = edits.edits_of(f"{top}/crates").keys(), edits.edits_of(f"{top}/crates", edits.BY_HAND).keys()
+            if (found := list(ledger.listed(text, by_gate, by_hand, ledger.Sums(top)))) != wanted:
+                yield f"{changes}: {found}"
     for told, listed, wanted in TRIED:
         with tempfile.TemporaryDirectory() as top:
             made(top, FILES)
@@ -150,5 +167,5 @@ if __name__ == "__main__":
     wrong = list(faults())
     for it in wrong:
         print(f"ledger_test.py: {it}")
-    print(f"ledger_test.py: {len(CHANGES) + len(LEDGERS) + len(TRIED)} cases, {len(wrong)} wrong")
+    print(f"ledger_test.py: {len(CHANGES) + len(LEDGERS) + len(LISTED) + len(TRIED)} cases, {len(wrong)} wrong")
     sys.exit(1 if wrong else 0)
