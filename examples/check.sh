@@ -465,7 +465,7 @@ digits() {
 for it in REPORT SCRIPT; do
     page "$it.md"
 done
-if has riscv64-unknown-elf-gcc gcc-riscv64-unknown-elf docs/GUESTS.md && has qemu-riscv32 qemu-user docs/GUESTS.md; then
+if has riscv64-unknown-elf-gcc gcc-riscv64-unknown-elf docs/GUESTS.md && has curl curl docs/GUESTS.md; then
     page GUESTS.md
 fi
 if has riscv64-unknown-elf-gcc gcc-riscv64-unknown-elf docs/CHECKED.md; then
