@@ -1,6 +1,7 @@
 -- A kernel whose input arrives keeps what always holds, where more comes and where a call is served.
 use Rattle.std.proofs.Common.{◌≡◌, ◌∙◌, sym, ap, subst, refl, ℕ, zero, suc, ◌+◌, ◌≤◌, Bool, true, false, not, Some, option_map, List, [], ◌∷◌, ◌++◌, length, take, drop, map, arith, length-drop}
 use Rattle.std.proofs.lemmas.List.{length-map}
+use Rattle.nv_calls.specs.Answer.{state_after}
 use Rattle.nv_calls.specs.Calls.{Request, Entry}
 use Rattle.nv_calls.specs.Logs.{calls_of, call_of}
 use Rattle.nv_script.specs.Scripts.{Setup}
@@ -14,7 +15,7 @@ use Rattle.nv_arrivals.specs.Arrivals.{Arrival}
 use Rattle.nv_arriving.specs.declared.waiting.Intake.{Intake}
 use Rattle.nv_arriving.specs.declared.waiting.Want.{Want}
 use Rattle.nv_arriving.specs.Arrivals.{ends, any_ends, until, taken_for, in_vain}
-use Rattle.nv_arriving.specs.Arriving.{Standing, Stage, wants, wait_of, arrive_all, taken, ready_for, serve_next, first_stage, stage_after, Satisfied, start_of_arrivals}
+use Rattle.nv_arriving.specs.Arriving.{Standing, Stage, wants, wait_of, arrive_all, taken, ready_for, serve_next, first_stage, Satisfied, start_of_arrivals}
 use Rattle.nv_arriving.specs.Kernel.{after, intake_of, Grew}
 use Rattle.nv_arriving.proofs.Coming.{drop_front, taken_few, with_more, after_more, satisfied_last, satisfied_more, goes_on}
 use Rattle.nv_arrivals.specs.Views.{view as arrival_of}
@@ -32,17 +33,17 @@ module _ (setup : Setup) (before now : List Arrival) (log : List Entry) where
   goes_by true h same g = goes_on_same log (start_of_arrivals setup before) (start_of_arrivals setup now) (ap (start_of_arrivals setup) (same refl))
   goes_by false h same g = subst (λ z. GoesOn log (start_of_arrivals setup before) (start_of_arrivals setup z)) (sym g) (goes_on setup before (after before now) log (h refl))
 
-  stage_by : (s : Standing) (used : ℕ) (over : Bool) → used ≤ length before → record { here = s; rest = drop used before } ≡ stage_after (first_stage setup before) (calls_of log)
+  stage_by : (s : Standing) (used : ℕ) (over : Bool) → used ≤ length before → record { here = s; rest = drop used before } ≡ state_after serve_next (first_stage setup before) (calls_of log)
       → (over ≡ false → Satisfied (first_stage setup before) (calls_of log)) → (over ≡ true → now ≡ before) → Grew before now
-      → record { here = s; rest = drop used now } ≡ stage_after (first_stage setup now) (calls_of log)
-  stage_by s used true few is h same g = subst (λ z. record { here = s; rest = drop used z } ≡ stage_after (first_stage setup z) (calls_of log)) (sym (same refl)) is
+      → record { here = s; rest = drop used now } ≡ state_after serve_next (first_stage setup now) (calls_of log)
+  stage_by s used true few is h same g = subst (λ z. record { here = s; rest = drop used z } ≡ state_after serve_next (first_stage setup z) (calls_of log)) (sym (same refl)) is
   stage_by s used false few is h same g =
       let more : List Arrival = after before now in
       ap (λ z. record { here = s; rest = drop used z }) g
       ∙ (ap (λ z. record { here = s; rest = z }) (drop_front used before more few)
       ∙ (ap (λ (z : Stage). with_more z more) is
       ∙ (sym (after_more (first_stage setup before) more (calls_of log) (h refl))
-      ∙ ap (λ z. stage_after (first_stage setup z) (calls_of log)) (sym g))))
+      ∙ ap (λ z. state_after serve_next (first_stage setup z) (calls_of log)) (sym g))))
 
   satisfied_by : (over over' : Bool) → (over ≡ false → Satisfied (first_stage setup before) (calls_of log)) → (over' ≡ false → over ≡ false) → Grew before now
       → over' ≡ false → Satisfied (first_stage setup now) (calls_of log)
@@ -54,10 +55,10 @@ pub goes : (setup : Setup) (before now : List Arrival) (log : List Entry) (over 
 goes setup before now log = goes_by setup before now log
 
 pub staged : (setup : Setup) (before now : List Arrival) (log log' : List Entry) (s : Standing) (used : ℕ) (over : Bool) → log' ≡ log → used ≤ length before
-    → record { here = s; rest = drop used before } ≡ stage_after (first_stage setup before) (calls_of log)
+    → record { here = s; rest = drop used before } ≡ state_after serve_next (first_stage setup before) (calls_of log)
     → (over ≡ false → Satisfied (first_stage setup before) (calls_of log)) → (over ≡ true → now ≡ before) → Grew before now
-    → record { here = s; rest = drop used now } ≡ stage_after (first_stage setup now) (calls_of log')
-staged setup before now log log' s used over e few is h same g = stage_by setup before now log s used over few is h same g ∙ ap (λ z. stage_after (first_stage setup now) (calls_of z)) (sym e)
+    → record { here = s; rest = drop used now } ≡ state_after serve_next (first_stage setup now) (calls_of log')
+staged setup before now log log' s used over e few is h same g = stage_by setup before now log s used over few is h same g ∙ ap (λ z. state_after serve_next (first_stage setup now) (calls_of z)) (sym e)
 
 pub satisfied : (setup : Setup) (before now : List Arrival) (log log' : List Entry) (over over' : Bool) → log' ≡ log → (over ≡ false → Satisfied (first_stage setup before) (calls_of log)) → (over' ≡ false → over ≡ false) → Grew before now
     → over' ≡ false → Satisfied (first_stage setup now) (calls_of log')
@@ -65,35 +66,35 @@ satisfied setup before now log log' over over' e h was g o = subst (λ z. Satisf
 
 -- ---- where a call is served
 
-pub served_more : (g : Stage) (c : Request) → (serve_next g c).here.state.own.served ≡ g.here.state.own.served + 1
+pub served_more : (g : Stage) (c : Request) → (serve_next g c).state.here.state.own.served ≡ g.here.state.own.served + 1
 served_more g c =
     let front : List Arrival = take (taken g c) g.rest in
     let still = ap (λ (z : State). z.own.served) (vain_state (in_vain (wait_of g.here c) g.rest) (arrive_all g.here front)) in
     omega (arith, by_served (ready_for g c) c (until_of g.here c), still, served_still g.here front)
 
-pub clones_more : (g : Stage) (c : Request) → (serve_next g c).here.state.own.crew.clones ≤ g.here.state.own.crew.clones + 1
+pub clones_more : (g : Stage) (c : Request) → (serve_next g c).state.here.state.own.crew.clones ≤ g.here.state.own.crew.clones + 1
 clones_more g c =
     let front : List Arrival = take (taken g c) g.rest in
     let still = ap (λ (z : State). z.own.crew.clones) (vain_state (in_vain (wait_of g.here c) g.rest) (arrive_all g.here front)) in
     omega (arith, by_clones (ready_for g c) c (until_of g.here c), still, ap (λ (z : Crew). z.clones) (crew_still g.here front))
 
-pub served_after : (g : Stage) (cs : List Request) → (stage_after g cs).here.state.own.served ≡ g.here.state.own.served + length cs
+pub served_after : (g : Stage) (cs : List Request) → (state_after serve_next g cs).here.state.own.served ≡ g.here.state.own.served + length cs
 served_after g [] = omega arith
-served_after g (c ∷ cs) = omega (arith, served_after (serve_next g c) cs, served_more g c)
+served_after g (c ∷ cs) = omega (arith, served_after (serve_next g c).state cs, served_more g c)
 
-pub clones_after : (g : Stage) (cs : List Request) → (stage_after g cs).here.state.own.crew.clones ≤ g.here.state.own.crew.clones + length cs
+pub clones_after : (g : Stage) (cs : List Request) → (state_after serve_next g cs).here.state.own.crew.clones ≤ g.here.state.own.crew.clones + length cs
 clones_after g [] = omega arith
-clones_after g (c ∷ cs) = omega (arith, clones_after (serve_next g c) cs, clones_more g c)
+clones_after g (c ∷ cs) = omega (arith, clones_after (serve_next g c).state cs, clones_more g c)
 
-pub log_served : (setup : Setup) (came : List Arrival) (log : List Entry) → (stage_after (first_stage setup came) (calls_of log)).here.state.own.served ≡ length log
+pub log_served : (setup : Setup) (came : List Arrival) (log : List Entry) → (state_after serve_next (first_stage setup came) (calls_of log)).here.state.own.served ≡ length log
 log_served setup came log = omega (arith, served_after (first_stage setup came) (calls_of log), length-map log call_of)
 
-pub log_clones : (setup : Setup) (came : List Arrival) (log : List Entry) → (stage_after (first_stage setup came) (calls_of log)).here.state.own.crew.clones ≤ length log
+pub log_clones : (setup : Setup) (came : List Arrival) (log : List Entry) → (state_after serve_next (first_stage setup came) (calls_of log)).here.state.own.crew.clones ≤ length log
 log_clones setup came log = omega (arith, clones_after (first_stage setup came) (calls_of log), length-map log call_of)
 
 -- one more call had what it waits for
 pub satisfied_served : (g : Stage) (log : List Entry) (e : Entry) (over : Bool) → (over ≡ false → Satisfied g (calls_of log))
-    → (over ≡ false → in_vain (wait_of (stage_after g (calls_of log)).here e.call) (stage_after g (calls_of log)).rest ≡ false) → over ≡ false → Satisfied g (calls_of (log ++ e ∷ []))
+    → (over ≡ false → in_vain (wait_of (state_after serve_next g (calls_of log)).here e.call) (state_after serve_next g (calls_of log)).rest ≡ false) → over ≡ false → Satisfied g (calls_of (log ++ e ∷ []))
 satisfied_served g log e over h k o = subst (Satisfied g) (sym (map_more call_of log e)) (satisfied_last g (calls_of log) e.call (h o) (k o))
 
 plus_suc : (m n : ℕ) → suc m + n ≡ suc (m + n)

@@ -4,6 +4,7 @@ use Rattle.std.specs.Prelude.{IfSome, if◌then◌else◌, filter}
 use Rattle.std.proofs.lemmas.Bool.Decides.{nat_tests}
 use Rattle.nv_calls.specs.declared.numbers.Syscall.{Syscall}
 use Rattle.nv_calls.specs.declared.numbers.Syscall.TheVariants as call
+use Rattle.nv_calls.specs.Answer.{Answer}
 use Rattle.nv_calls.specs.Calls.{Request}
 use Rattle.nv_calls.specs.Errors.{EAGAIN, EINVAL}
 use Rattle.nv_calls.specs.Logs.{made, with_child, IsNew}
@@ -30,7 +31,7 @@ use Rattle.nv_kernel.specs.Reserved.{most_out}
 use Rattle.std.specs.Int.{to_le_bytes, w16}
 use Rattle.std.specs.List.{range_with_len}
 use Rattle.std.proofs.lemmas.List.FromFn.{length-range_with_len, length-map-range_with_len}
-use Rattle.nv_arriving.specs.Arriving.{Standing, with_state, with_end, unless_vain, Reached, counted, reached_by, would_wait, later_as, later, nonblocking_by, noted, note, own_answer, or_own, serve_by}
+use Rattle.nv_arriving.specs.Arriving.{Standing, with_state, with_end, unless_vain, counted, reached_by, would_wait, later_as, later, nonblocking_by, noted, note, own_answer, or_own, serve_by}
 
 -- ---- what stays
 
@@ -82,14 +83,14 @@ note_state s c ret = by s.polls where
 
 -- ---- what a later call leaves of the kernel without sockets
 
-pub record Leaves (s : Standing) (r : Reached) : Type 0 where
-  pub served : r.here.state.own.served ≡ s.state.own.served + 1
-  pub crew : r.here.state.own.crew ≡ s.state.own.crew
+pub record Leaves (s : Standing) (r : Answer Standing) : Type 0 where
+  pub served : r.state.state.own.served ≡ s.state.own.served + 1
+  pub crew : r.state.state.own.crew ≡ s.state.own.crew
 
-leaves_by : (s t : Standing) (ret : ℤ) (bytes : List ℕ) → t.state.own.served ≡ s.state.own.served → t.state.own.crew ≡ s.state.own.crew → Leaves s (record { here = counted t; ret = ret; payload = bytes })
+leaves_by : (s t : Standing) (ret : ℤ) (bytes : List ℕ) → t.state.own.served ≡ s.state.own.served → t.state.own.crew ≡ s.state.own.crew → Leaves s (record { state = counted t; ret = ret; payload = bytes })
 leaves_by s t ret bytes served crew = record { served = omega (arith, served); crew = crew }
 
-slept_leaves : (s : Standing) (u : Until) → Leaves s (record { here = counted (slept s u).1; ret = (slept s u).0; payload = [] })
+slept_leaves : (s : Standing) (u : Until) → Leaves s (record { state = counted (slept s u).1; ret = (slept s u).0; payload = [] })
 slept_leaves s until.Never = leaves_by s s EINVAL [] refl refl
 slept_leaves s until.Bad = leaves_by s s EINVAL [] refl refl
 slept_leaves s (until.At seconds nanos) = leaves_by s _ (pos 0) [] refl refl
@@ -168,24 +169,24 @@ in_few : (b : Bool) (k : Syscall) (s : Standing) (c : Request) (u : Until) → s
 in_few true k s c u e = as_few k s c u e
 in_few false k s c u e = tt
 
-pub later_few : (s : Standing) (c : Request) (u : Until) (r : Reached) → later s c u ≡ Some r → length r.payload ≤ most_out c
+pub later_few : (s : Standing) (c : Request) (u : Until) (r : Answer Standing) → later s c u ≡ Some r → length r.payload ≤ most_out c
 unfolding later
-later_few s c u r e = subst (λ (o : Option Reached). IfSome o (λ z. length z.payload ≤ most_out c)) e (in_few (s.polls && not c.bad) (syscall_of c.nr) s c u refl)
+later_few s c u r e = subst (λ (o : Option (Answer Standing)). IfSome o (λ z. length z.payload ≤ most_out c)) e (in_few (s.polls && not c.bad) (syscall_of c.nr) s c u refl)
 
 -- ---- what any call leaves
 
-or_served : (s : Standing) (c : Request) (o : Option Reached) → IfSome o (Leaves s) → (or_own s c o).here.state.own.served ≡ s.state.own.served + 1
+or_served : (s : Standing) (c : Request) (o : Option (Answer Standing)) → IfSome o (Leaves s) → (or_own s c o).state.state.own.served ≡ s.state.own.served + 1
 or_served s c (Some r) h = h.served
 or_served s c None h =
     let still = ap (λ (t : State). t.own.served) (note_state (with_state s (serve s.state c).state) c (serve s.state c).ret) in
     let n = ap (λ (z : kernel.State). z.served) (own_next s.state c) ∙ count_is s.state.own (c ∷ []) in
     omega (arith, still, n)
 
-pub by_served : (s : Standing) (c : Request) (u : Until) → (serve_by s c u).here.state.own.served ≡ s.state.own.served + 1
+pub by_served : (s : Standing) (c : Request) (u : Until) → (serve_by s c u).state.state.own.served ≡ s.state.own.served + 1
 unfolding serve_by
 by_served s c u = or_served s c (later s c u) (later_leaves s c u)
 
-or_clones : (s : Standing) (c : Request) (o : Option Reached) → IfSome o (Leaves s) → (or_own s c o).here.state.own.crew.clones ≤ s.state.own.crew.clones + 1
+or_clones : (s : Standing) (c : Request) (o : Option (Answer Standing)) → IfSome o (Leaves s) → (or_own s c o).state.state.own.crew.clones ≤ s.state.own.crew.clones + 1
 or_clones s c (Some r) h = let same = ap (λ (z : Crew). z.clones) h.crew in omega (arith, same)
 or_clones s c None h =
     let still = ap (λ (t : State). t.own.crew.clones) (note_state (with_state s (serve s.state c).state) c (serve s.state c).ret) in
@@ -193,19 +194,19 @@ or_clones s c None h =
     let few = few_clones_after s.state.own (c ∷ []) in
     omega (arith, still, n, few)
 
-pub by_clones : (s : Standing) (c : Request) (u : Until) → (serve_by s c u).here.state.own.crew.clones ≤ s.state.own.crew.clones + 1
+pub by_clones : (s : Standing) (c : Request) (u : Until) → (serve_by s c u).state.state.own.crew.clones ≤ s.state.own.crew.clones + 1
 unfolding serve_by
 by_clones s c u = or_clones s c (later s c u) (later_leaves s c u)
 
 -- ---- the threads that live
 
 pub record Steps (s : Standing) (c : Request) (u : Until) : Type 0 where
-  pub is : IsCrew (serve_by s c u).here.state.own.crew
+  pub is : IsCrew (serve_by s c u).state.state.own.crew
   pub new : IsNew s.state.own.crew.live (made c.nr (serve_by s c u).ret)
-  pub live : (serve_by s c u).here.state.own.crew.live ≡ live_by c.nr c.tid s.state.own.crew.live (serve_by s c u).ret
+  pub live : (serve_by s c u).state.state.own.crew.live ≡ live_by c.nr c.tid s.state.own.crew.live (serve_by s c u).ret
 
-abbrev StepsTo : Standing → Request → Reached → Type 0
-StepsTo s c r = IsCrew r.here.state.own.crew × IsNew s.state.own.crew.live (made c.nr r.ret) × (r.here.state.own.crew.live ≡ live_by c.nr c.tid s.state.own.crew.live r.ret)
+abbrev StepsTo : Standing → Request → Answer Standing → Type 0
+StepsTo s c r = IsCrew r.state.state.own.crew × IsNew s.state.own.crew.live (made c.nr r.ret) × (r.state.state.own.crew.live ≡ live_by c.nr c.tid s.state.own.crew.live r.ret)
 
 own_steps : (s : Standing) (c : Request) → IsCrew s.state.own.crew → IsShaped c → StepsTo s c (own_answer s c (serve s.state c))
 own_steps s c i h =
@@ -232,7 +233,7 @@ still_none : (on : Bool) (s : Standing) → (if on && false then Some (reached_b
 still_none true s = refl
 still_none false s = refl
 
-in_none : (b : Bool) (o : Option Reached) → o ≡ None → (if b then o else None) ≡ None
+in_none : (b : Bool) (o : Option (Answer Standing)) → o ≡ None → (if b then o else None) ≡ None
 in_none true o h = h
 in_none false o h = refl
 
@@ -241,17 +242,17 @@ of_none : (s : Standing) (c : Request) (u : Until) (k : Syscall) → syscall_of 
 unfolding later
 of_none s c u k e h = ap (λ (z : Syscall). later_by z) e ∙ in_none (s.polls && not c.bad) (later_as k s c u) h
   where
-    later_by : Syscall → Option Reached
+    later_by : Syscall → Option (Answer Standing)
     later_by z = if s.polls && not c.bad then later_as z s c u else None
 
-plain_live : (s : Standing) (c : Request) (r : Reached) → r.here.state.own.crew ≡ s.state.own.crew → (c.nr == 94) ≡ false → (c.nr == 93) ≡ false → (c.nr == 220) ≡ false
-    → r.here.state.own.crew.live ≡ live_by c.nr c.tid s.state.own.crew.live r.ret
+plain_live : (s : Standing) (c : Request) (r : Answer Standing) → r.state.state.own.crew ≡ s.state.own.crew → (c.nr == 94) ≡ false → (c.nr == 93) ≡ false → (c.nr == 220) ≡ false
+    → r.state.state.own.crew.live ≡ live_by c.nr c.tid s.state.own.crew.live r.ret
 plain_live s c r e p q n =
     let live : List ℕ = s.state.own.crew.live in
     ap (λ (z : Crew). z.live) e ∙ sym (ap (λ b. cond b [] (cond (c.nr == 93) (filter (λ t. not (t == c.tid)) live) (with_child live (made c.nr r.ret)))) p
     ∙ ap (λ b. cond b (filter (λ t. not (t == c.tid)) live) (with_child live (made c.nr r.ret))) q ∙ ap (with_child live) (not_made c.nr r.ret n))
 
-later_steps : (s : Standing) (c : Request) (u : Until) (r : Reached) → IsCrew s.state.own.crew → later s c u ≡ Some r → Leaves s r → StepsTo s c r
+later_steps : (s : Standing) (c : Request) (u : Until) (r : Answer Standing) → IsCrew s.state.own.crew → later s c u ≡ Some r → Leaves s r → StepsTo s c r
 later_steps s c u r i h l = by (c.nr == 94) (c.nr == 93) (c.nr == 220) refl refl refl
   where
     never : later s c u ≡ None → StepsTo s c r
@@ -263,7 +264,7 @@ later_steps s c u r i h l = by (c.nr == 94) (c.nr == 93) (c.nr == 220) refl refl
     by false false true p q n = never (of_none s c u call.Clone (clone_at c.nr (same c.nr 220 n)) (still_none _ s))
     by false false false p q n = (subst IsCrew (sym l.crew) i, subst (IsNew s.state.own.crew.live) (sym (not_made c.nr r.ret n)) tt, plain_live s c r l.crew p q n)
 
-steps_of : (s : Standing) (c : Request) (u : Until) (o : Option Reached) → later s c u ≡ o → IfSome o (Leaves s) → IsCrew s.state.own.crew → IsShaped c → StepsTo s c (or_own s c o)
+steps_of : (s : Standing) (c : Request) (u : Until) (o : Option (Answer Standing)) → later s c u ≡ o → IfSome o (Leaves s) → IsCrew s.state.own.crew → IsShaped c → StepsTo s c (or_own s c o)
 steps_of s c u None e l i h = own_steps s c i h
 steps_of s c u (Some r) e l i h = later_steps s c u r i e l
 

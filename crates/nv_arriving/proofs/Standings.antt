@@ -1,5 +1,6 @@
 -- Where what answers stands, where more comes and where a call is answered.
 use Rattle.std.proofs.Common.{◌≡◌, ◌∙◌, sym, ap, subst, refl, ℕ, ℤ, ◌<◌, ◌≤◌, Bool, true, false, List, [], ◌∷◌, ◌++◌, length, map, take, drop, arith}
+use Rattle.nv_calls.specs.Answer.{Answer, reply_of, state_after}
 use Rattle.nv_calls.specs.Calls.{Request, Response, Entry}
 use Rattle.nv_calls.specs.Logs.{IsNew, made, served, child_of, calls_of, live_after, live_next}
 use Rattle.nv_calls.specs.Shapes.{IsShaped}
@@ -10,11 +11,12 @@ use Rattle.nv_kernel.specs.Answering.{MayCome, IsAnswer}
 use Rattle.nv_kernel.specs.Crew.{Crew, IsCrew}
 use Rattle.nv_kernel.proofs.CrewLaws.{first_is}
 use Rattle.nv_kernel.proofs.Crews.{live_by}
+use Rattle.nv_kernel.proofs.Going.{log_more}
 use Rattle.nv_sockets.specs.Serving.{State}
 use Rattle.nv_arrivals.specs.Arrivals.{Arrival}
 use Rattle.nv_arrivals.specs.Doings.{Said, Doing, Takes, Says, handing}
 use Rattle.nv_arriving.specs.Arrivals.{in_vain}
-use Rattle.nv_arriving.specs.Arriving.{Standing, Stage, wait_of, arrive_all, taken, ready_for, Reached, reply_by, serve_by, answer_next, serve_next, first_stage, stage_after, Satisfied, start_of_arrivals}
+use Rattle.nv_arriving.specs.Arriving.{Standing, Stage, wait_of, arrive_all, taken, ready_for, serve_by, answer_next, serve_next, first_stage, Satisfied, start_of_arrivals}
 use Rattle.nv_arriving.specs.declared.timing.Until.{Until}
 use Rattle.nv_arriving.specs.declared.waiting.Intake.{Intake}
 use Rattle.nv_arriving.specs.Timing.{until_of}
@@ -27,7 +29,7 @@ use Rattle.nv_arriving.specs.Telling.{Adds, Tells}
 use Rattle.nv_arriving.proofs.Kept.{goes, staged, satisfied, satisfied_served, log_served, log_clones}
 use Rattle.nv_arriving.proofs.LaterLaws.{vain_state, Steps, any_step}
 use Rattle.nv_arriving.proofs.Sides.{crew_still}
-use Rattle.nv_arriving.proofs.Staged.{reply_is, log_more}
+use Rattle.nv_arriving.proofs.Staged.{reply_is}
 use Rattle.nv_arriving.proofs.Told.{told_heard, told_served, told_asked}
 
 module _ {O : Type 0} (did : O → O → List Doing → Type 0) (is_over : O → Type 0) where
@@ -98,7 +100,7 @@ module _ {O : Type 0} (did : O → O → List Doing → Type 0) (is_over : O →
 
   module _ (g h : Coming O) (c : Request) (ret : ℤ) (payload : List ℕ) (shaped : IsShaped c)
       (begun : h.begun ≡ g.begun) (came : h.came ≡ g.came) (over : h.over ≡ g.over)
-      (answer : answer_next g.stage c ≡ record { here = h.stage.here; ret = ret; payload = payload }) (next : h.stage ≡ serve_next g.stage c)
+      (answer : answer_next g.stage c ≡ record { state = h.stage.here; ret = ret; payload = payload }) (next : h.stage ≡ (serve_next g.stage c).state)
       (waits : g.over ≡ false → in_vain (wait_of g.stage.here c) g.stage.rest ≡ false)
       (says : Adds did g.outside h.outside (map Says (said (ready_for g.stage c).state c ret h.stage.here.state)))
       (stays : is_over g.outside → is_over h.outside)
@@ -108,7 +110,7 @@ module _ {O : Type 0} (did : O → O → List Doing → Type 0) (is_over : O →
       e = served (start_of_arrivals setup g.came) log c
 
       abbrev stage : Stage
-      stage = stage_after (first_stage setup g.came) (calls_of log)
+      stage = state_after serve_next (first_stage setup g.came) (calls_of log)
 
       abbrev ready : Standing
       ready = ready_for g.stage c
@@ -117,7 +119,7 @@ module _ {O : Type 0} (did : O → O → List Doing → Type 0) (is_over : O →
       until = until_of g.stage.here c
 
       reply : (start_of_arrivals setup g.came).replies (calls_of log) c ≡ record { ret = ret; payload = payload }
-      reply = reply_is setup g.came log c ∙ ap (λ (z : Stage). reply_by (answer_next z c)) (sym here.stage) ∙ ap reply_by answer
+      reply = reply_is setup g.came log c ∙ ap (λ (z : Stage). reply_of (answer_next z c)) (sym here.stage) ∙ ap reply_of answer
 
       crews : ready.state.own.crew ≡ g.stage.here.state.own.crew
       crews =
@@ -128,7 +130,7 @@ module _ {O : Type 0} (did : O → O → List Doing → Type 0) (is_over : O →
       step = any_step ready c until (subst IsCrew (sym crews) here.crew) shaped
 
       same_ret : e.reply.ret ≡ (serve_by ready c until).ret
-      same_ret = ap (λ (r : Response). r.ret) reply ∙ sym (ap (λ (r : Reached). r.ret) answer)
+      same_ret = ap (λ (r : Response). r.ret) reply ∙ sym (ap (λ (r : Answer Standing). r.ret) answer)
 
       threads : live_after log ≡ ready.state.own.crew.live
       threads = here.live ∙ ap (λ (z : Crew). z.live) (sym crews)
@@ -138,34 +140,34 @@ module _ {O : Type 0} (did : O → O → List Doing → Type 0) (is_over : O →
 
       live : live_after (log ++ e ∷ []) ≡ h.stage.here.state.own.crew.live
       live = live_more log e ∙ ap (λ (z : List ℕ). live_next z e) threads ∙ ap (λ (r : ℤ). live_by c.nr c.tid ready.state.own.crew.live r) same_ret
-          ∙ sym step.live ∙ ap (λ (r : Reached). r.here.state.own.crew.live) answer
+          ∙ sym step.live ∙ ap (λ (r : Answer Standing). r.state.state.own.crew.live) answer
 
-      staged_next : h.stage ≡ stage_after (first_stage setup g.came) (calls_of (log ++ e ∷ []))
-      staged_next = next ∙ ap (λ (z : Stage). serve_next z c) here.stage ∙ sym (log_more (first_stage setup g.came) log e)
+      staged_next : h.stage ≡ state_after serve_next (first_stage setup g.came) (calls_of (log ++ e ∷ []))
+      staged_next = next ∙ ap (λ (z : Stage). (serve_next z c).state) here.stage ∙ sym (log_more serve_next (first_stage setup g.came) log e)
 
-      answer_then : answer_next stage c ≡ record { here = h.stage.here; ret = ret; payload = payload }
+      answer_then : answer_next stage c ≡ record { state = h.stage.here; ret = ret; payload = payload }
       answer_then = ap (λ (z : Stage). answer_next z c) (sym here.stage) ∙ answer
 
-      says_then : Adds did g.outside h.outside (map Says (said (ready_for stage c).state c (answer_next stage c).ret (answer_next stage c).here.state))
+      says_then : Adds did g.outside h.outside (map Says (said (ready_for stage c).state c (answer_next stage c).ret (answer_next stage c).state.state))
       says_then = subst (λ (z : List Said). Adds did g.outside h.outside (map Says z))
-          (λ j. said (ready_for (here.stage j) c).state c (sym answer_then j).ret (sym answer_then j).here.state) says
+          (λ j. said (ready_for (here.stage j) c).state c (sym answer_then j).ret (sym answer_then j).state.state) says
 
       none_then : h.late ≡ false → drop (taken stage c) stage.rest ≡ []
-      none_then o = sym (ap (λ (z : Stage). z.rest) (next ∙ ap (λ (z : Stage). serve_next z c) here.stage)) ∙ none o
+      none_then o = sym (ap (λ (z : Stage). z.rest) (next ∙ ap (λ (z : Stage). (serve_next z c).state) here.stage)) ∙ none o
 
       told : Tells did g.begun h.outside setup g.came (log ++ e ∷ []) h.late
       told = told_served did g.begun setup g.came log e g.outside h.outside (log ++ e ∷ []) g.late h.late refl still none_then says_then here.told
 
       next_at : StandsAt did is_over h setup (log ++ e ∷ [])
       next_at = record {
-        stage = staged_next ∙ ap (λ (z : List Arrival). stage_after (first_stage setup z) (calls_of (log ++ e ∷ []))) (sym came);
+        stage = staged_next ∙ ap (λ (z : List Arrival). state_after serve_next (first_stage setup z) (calls_of (log ++ e ∷ []))) (sym came);
         satisfied = λ o. subst (λ z. Satisfied (first_stage setup z) (calls_of (log ++ e ∷ []))) (sym came)
             (satisfied_served (first_stage setup g.came) log e g.over here.satisfied (λ q. subst (λ (z : Stage). in_vain (wait_of z.here c) z.rest ≡ false) here.stage (waits q)) (sym over ∙ o));
         ended = λ o. stays (here.ended (sym over ∙ o));
         told = subst (λ (z : List Arrival). Tells did h.begun h.outside setup z (log ++ e ∷ []) h.late) (sym came)
             (subst (λ (z : O). Tells did z h.outside setup g.came (log ++ e ∷ []) h.late) (sym begun) told);
         live = live;
-        crew = subst (λ (r : Reached). IsCrew r.here.state.own.crew) answer step.is;
+        crew = subst (λ (r : Answer Standing). IsCrew r.state.state.own.crew) answer step.is;
       }
 
     -- it answers as the definition says, wherever it stands

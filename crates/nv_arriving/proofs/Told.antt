@@ -1,17 +1,18 @@
 -- What an outside tells of what was done, at the beginning, where more is heard and where a call is served.
 use Rattle.std.proofs.Common.{◌≡◌, ◌∙◌, sym, ap, subst, refl, ℕ, Bool, true, false, List, [], ◌∷◌, ◌++◌, take, drop, length, map, append_assoc, append-nil, take-append-drop}
+use Rattle.nv_calls.specs.Answer.{state_after}
 use Rattle.nv_calls.specs.Calls.{Entry}
 use Rattle.nv_calls.specs.Logs.{calls_of}
 use Rattle.nv_script.specs.Scripts.{Setup}
+use Rattle.nv_kernel.proofs.Going.{log_more}
 use Rattle.nv_arrivals.specs.Arrivals.{Arrival}
 use Rattle.nv_arrivals.specs.Doings.{Said, Doing, Takes, Says, Hands, takings, sayings, exchanges, handing}
-use Rattle.nv_arriving.specs.Arriving.{Stage, taken, ready_for, answer_next, first_stage, stage_after, Satisfied}
+use Rattle.nv_arriving.specs.Arriving.{Stage, taken, ready_for, answer_next, serve_next, first_stage, Satisfied}
 use Rattle.nv_arriving.specs.Doings.{said, doings_of, doings}
 use Rattle.nv_arriving.specs.Kernel.{after, Grew}
 use Rattle.nv_arriving.specs.Telling.{Adds, IsTold, Tells}
 use Rattle.nv_arriving.proofs.Coming.{after_more}
 use Rattle.nv_arriving.proofs.Doings.{doings_front, doings_more, takings_both, takings_all, takings_none}
-use Rattle.nv_arriving.proofs.Staged.{log_more}
 use Rattle.nv_arriving.proofs.Taken.{drop_all}
 
 -- ---- what was said
@@ -79,12 +80,12 @@ module _ (setup : Setup) (before now : List Arrival) (log : List Entry) where
   doings_heard false h same g = ap (λ z. doings setup z log) g ∙ doings_more setup before more log (h refl)
 
   rest_heard : (over : Bool) → (over ≡ false → Satisfied (first_stage setup before) (calls_of log)) → (over ≡ true → now ≡ before) → Grew before now
-      → (stage_after (first_stage setup now) (calls_of log)).rest ≡ (stage_after (first_stage setup before) (calls_of log)).rest ++ more
+      → (state_after serve_next (first_stage setup now) (calls_of log)).rest ≡ (state_after serve_next (first_stage setup before) (calls_of log)).rest ++ more
   rest_heard true h same g =
-      let rest : List Arrival = (stage_after (first_stage setup before) (calls_of log)).rest in
-      ap (λ z. (stage_after (first_stage setup z) (calls_of log)).rest) (same refl) ∙ (sym (append-nil rest) ∙ ap (λ z. rest ++ z) (sym (none_more (same refl))))
+      let rest : List Arrival = (state_after serve_next (first_stage setup before) (calls_of log)).rest in
+      ap (λ z. (state_after serve_next (first_stage setup z) (calls_of log)).rest) (same refl) ∙ (sym (append-nil rest) ∙ ap (λ z. rest ++ z) (sym (none_more (same refl))))
   rest_heard false h same g =
-      ap (λ z. (stage_after (first_stage setup z) (calls_of log)).rest) g ∙ ap (λ (z : Stage). z.rest) (after_more (first_stage setup before) more (calls_of log) (h refl))
+      ap (λ z. (state_after serve_next (first_stage setup z) (calls_of log)).rest) g ∙ ap (λ (z : Stage). z.rest) (after_more (first_stage setup before) more (calls_of log) (h refl))
 
 module _ {O : Type 0} (did : O → O → List Doing → Type 0) (begun : O) (setup : Setup) where
   pub told_first : Tells did begun begun setup [] [] false
@@ -100,7 +101,7 @@ module _ {O : Type 0} (did : O → O → List Doing → Type 0) (begun : O) (set
       let was : IsTold did begun old setup before log late done = (t first).1 in
       let d = doings_heard setup before now log over h same g in
       let r = rest_heard setup before now log over h same g in
-      let rest : List Arrival = (stage_after (first_stage setup before) (calls_of log)).rest in
+      let rest : List Arrival = (state_after serve_next (first_stage setup before) (calls_of log)).rest in
       let is : IsTold did begun new setup now log late (done ++ map Takes more) = record {
         is = adds begun done was.is;
         took = takings_both done (map Takes more) ∙ ((λ i. was.took i ++ takings_all more i) ∙ sym g);
@@ -117,10 +118,10 @@ module _ {O : Type 0} (did : O → O → List Doing → Type 0) (begun : O) (set
 
 module _ {O : Type 0} (did : O → O → List Doing → Type 0) (begun : O) (setup : Setup) (came : List Arrival) (log : List Entry) (e : Entry) where
   abbrev stage : Stage
-  stage = stage_after (first_stage setup came) (calls_of log)
+  stage = state_after serve_next (first_stage setup came) (calls_of log)
 
   abbrev says : List Said
-  says = said (ready_for stage e.call).state e.call (answer_next stage e.call).ret (answer_next stage e.call).here.state
+  says = said (ready_for stage e.call).state e.call (answer_next stage e.call).ret (answer_next stage e.call).state.state
 
   doings_last : doings setup came (log ++ e ∷ []) ≡ doings setup came log ++ doings_of stage e.call
   doings_last = doings_front setup came log (e ∷ []) ∙ ap (λ (z : List Doing). doings setup came log ++ z) (append-nil (doings_of stage e.call))
@@ -130,11 +131,11 @@ module _ {O : Type 0} (did : O → O → List Doing → Type 0) (begun : O) (set
 
   -- nothing is left
   in_order_last : (done : List Doing) → drop (taken stage e.call) stage.rest ≡ [] → exchanges done ≡ doings setup came log ++ map Takes stage.rest
-      → exchanges (done ++ map Says says) ≡ doings setup came (log ++ e ∷ []) ++ map Takes (stage_after (first_stage setup came) (calls_of (log ++ e ∷ []))).rest
+      → exchanges (done ++ map Says says) ≡ doings setup came (log ++ e ∷ []) ++ map Takes (state_after serve_next (first_stage setup came) (calls_of (log ++ e ∷ []))).rest
   in_order_last done none is =
       let front : List Arrival = take (taken stage e.call) stage.rest in
       let all : front ≡ stage.rest = sym (append-nil front) ∙ (ap (λ (z : List Arrival). front ++ z) (sym none) ∙ take-append-drop (taken stage e.call) stage.rest) in
-      let left : (stage_after (first_stage setup came) (calls_of (log ++ e ∷ []))).rest ≡ [] = ap (λ (z : Stage). z.rest) (log_more (first_stage setup came) log e) ∙ none in
+      let left : (state_after serve_next (first_stage setup came) (calls_of (log ++ e ∷ []))).rest ≡ [] = ap (λ (z : Stage). z.rest) (log_more serve_next (first_stage setup came) log e) ∙ none in
       exchanges_both done (map Says says) ∙ (λ i. exchanges done ++ exchanges_said says i) ∙ ap (λ (z : List Doing). z ++ map Says says) (is ∙ ap (λ (z : List Arrival). doings setup came log ++ map Takes z) (sym all))
       ∙ (append_assoc (doings setup came log) (map Takes front) (map Says says)
       ∙ (sym doings_last

@@ -3,7 +3,8 @@
 use Rattle.std.specs.Prelude.{◌≡◌, ℕ, ◌+◌, ◌*◌, ℤ, pos, Bool, true, false, not, ◌&&◌, ◌==◌, nat_lt, bit_and, List, [], ◌∷◌, ◌++◌, take, drop, map, Option, Some, None, option_map, is_some, is_none, if◌then◌else◌}
 use Rattle.nv_calls.specs.declared.numbers.Syscall.{Syscall}
 use Rattle.nv_calls.specs.declared.numbers.Syscall.TheVariants as call
-use Rattle.nv_calls.specs.Calls.{Request, Response}
+use Rattle.nv_calls.specs.Answer.{Answer, answer, only, start_at}
+use Rattle.nv_calls.specs.Calls.{Request}
 use Rattle.nv_calls.specs.Errors.{EAGAIN}
 use Rattle.nv_calls.specs.Limits.{MOST_VECTORS}
 use Rattle.nv_calls.specs.Logs.{Start}
@@ -15,7 +16,7 @@ use Rattle.nv_sockets.specs.declared.socket.Socket.{Socket}
 use Rattle.nv_sockets.specs.declared.socket.Socket.TheVariants.{Fresh, Bound, Listening, Connected}
 use Rattle.nv_sockets.specs.Sockets.{Net, socket_at, are_flags, free_place, next_at, has_unread}
 use Rattle.nv_sockets.specs.Coming.{connected, with_data, ended}
-use Rattle.nv_sockets.specs.Serving.{Served, serve, first_state, link_written}
+use Rattle.nv_sockets.specs.Serving.{State, serve, first_state, link_written}
 use Rattle.nv_arriving.specs.declared.timing.Until.{Until}
 use Rattle.nv_arriving.specs.declared.waiting.Want.{Want}
 use Rattle.nv_arriving.specs.declared.waiting.Want.TheVariants as want
@@ -107,26 +108,20 @@ unless_vain vain s = if vain && s.polls then with_end s else s
 
 -- ---- what is answered in place of the answer of the kernel whose calls wait for one thing
 
--- what a call leaves, its result, and the bytes that it hands out
-pub record Reached : Type 0 where
-  pub here : Standing
-  pub ret : ℤ
-  pub payload : List ℕ
-
 abbrev pub counted : Standing → Standing
 counted s = record s { state = record s.state { own = record s.state.own { served = s.state.own.served + 1 } } }
 
-abbrev pub reached_by : ℤ × Standing → Reached
-reached_by a = record { here = counted a.1; ret = a.0; payload = [] }
+abbrev pub reached_by : ℤ × Standing → Answer Standing
+reached_by a = only (counted a.1) a.0
 
-abbrev pub polled : Standing → ℤ × List ℕ → Reached
-polled s a = record { here = counted s; ret = a.0; payload = a.1 }
+abbrev pub polled : Standing → ℤ × List ℕ → Answer Standing
+polled s a = answer (counted s) a.0 a.1
 
 -- a call that would wait, on a descriptor whose calls never do
 abbrev pub would_wait : Syscall → Standing → Request → Bool
 would_wait k s c = is_nonblocking s (request_arg c 0) && is_some (wants_on k s c)
 
-abbrev pub later_as : Syscall → Standing → Request → Until → Option Reached
+abbrev pub later_as : Syscall → Standing → Request → Until → Option (Answer Standing)
 later_as call.Fcntl s c u = Some (reached_by (control_of s (request_arg c 0) (request_arg c 1) (request_arg c 2)))
 later_as call.ClockNanosleep s c u = Some (reached_by (slept s u))
 later_as call.Ppoll s c u = Some (polled s (poll_of s c u))
@@ -134,7 +129,7 @@ later_as call.Pselect6 s c u = Some (polled s (poll_of s c u))
 later_as k s c u = if would_wait k s c then Some (reached_by (EAGAIN, s)) else None
 
 -- nothing of runs that don't have the later calls, and of calls on memory that isn't the guest's
-unfoldable pub later : Standing → Request → Until → Option Reached
+unfoldable pub later : Standing → Request → Until → Option (Answer Standing)
 later s c u = if s.polls && not c.bad then later_as (syscall_of c.nr) s c u else None
 
 -- calls on a new socket never wait, or do, as its flags say
@@ -151,15 +146,15 @@ noted s ret on = s
 abbrev pub note : Standing → Request → ℤ → Standing
 note s c ret = if s.polls then noted s ret (nonblocking_by (syscall_of c.nr) c) else s
 
-abbrev pub own_answer : Standing → Request → Served → Reached
-own_answer s c r = record { here = note (with_state s r.state) c r.ret; ret = r.ret; payload = r.payload }
+abbrev pub own_answer : Standing → Request → Answer State → Answer Standing
+own_answer s c a = answer (note (with_state s a.state) c a.ret) a.ret a.payload
 
-abbrev pub or_own : Standing → Request → Option Reached → Reached
+abbrev pub or_own : Standing → Request → Option (Answer Standing) → Answer Standing
 or_own s c None = own_answer s c (serve s.state c)
-or_own s c (Some r) = r
+or_own s c (Some a) = a
 
 -- what a call is answered whose wait is over at this time, and what it leaves
-unfoldable pub serve_by : Standing → Request → Until → Reached
+unfoldable pub serve_by : Standing → Request → Until → Answer Standing
 serve_by s c u = or_own s c (later s c u)
 
 -- ---- from call to call
@@ -177,33 +172,18 @@ taken g c = taken_for (wait_of g.here c) g.rest
 abbrev pub ready_for : Stage → Request → Standing
 ready_for g c = unless_vain (in_vain (wait_of g.here c) g.rest) (arrive_all g.here (take (taken g c) g.rest))
 
--- what the call answers
-abbrev pub answer_next : Stage → Request → Reached
+-- what the call is answered, and what the kernel then holds
+abbrev pub answer_next : Stage → Request → Answer Standing
 answer_next g c = serve_by (ready_for g c) c (until_of g.here c)
 
--- what it leaves
-abbrev pub serve_next : Stage → Request → Stage
-serve_next g c = record { here = (answer_next g c).here; rest = drop (taken g c) g.rest }
-
-abbrev pub stage_after : Stage → List Request → Stage
-stage_after g [] = g
-stage_after g (c ∷ cs) = stage_after (serve_next g c) cs
+-- what the call is answered, and what it leaves
+abbrev pub serve_next : Stage → Request → Answer Stage
+serve_next g c = let a = answer_next g c in answer (record { here = a.state; rest = drop (taken g c) g.rest }) a.ret a.payload
 
 -- none of the calls waited while nothing of what it waited for had come
 abbrev pub Satisfied : Stage → List Request → Type 0
 Satisfied g [] = Unit {0}
-Satisfied g (c ∷ cs) = (in_vain (wait_of g.here c) g.rest ≡ false) × Satisfied (serve_next g c) cs
-
-abbrev pub reply_by : Reached → Response
-reply_by r = record { ret = r.ret; payload = r.payload }
-
--- how the kernel goes on from a stage
-abbrev pub start_at : Stage → Start
-start_at g = record {
-  replies = λ cs c. reply_by (answer_next (stage_after g cs) c);
-  console = λ cs. (stage_after g cs).here.state.own.files.console;
-  connections = λ cs. map link_written (stage_after g cs).here.state.net.links;
-}
+Satisfied g (c ∷ cs) = (in_vain (wait_of g.here c) g.rest ≡ false) × Satisfied (serve_next g c).state cs
 
 -- what a script gives
 abbrev pub first_standing : Setup → Standing
@@ -221,4 +201,5 @@ first_stage setup arrivals = record { here = first_standing setup; rest = arriva
 
 -- how the kernel goes on from a script, as far as this has come
 unfoldable pub start_of_arrivals : Setup → List Arrival → Start
-start_of_arrivals setup arrivals = start_at (first_stage setup arrivals)
+start_of_arrivals setup arrivals =
+    start_at serve_next (λ (g : Stage). g.here.state.own.files.console) (λ (g : Stage). map link_written g.here.state.net.links) (first_stage setup arrivals)

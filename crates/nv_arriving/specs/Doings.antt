@@ -76,11 +76,11 @@ said before c ret now =
 
 -- what a call does outside: it takes in what it waits for, is served, and says what it says
 abbrev pub doings_of : Stage → Request → List Doing
-doings_of g c = map Takes (take (taken g c) g.rest) ++ map Says (said (ready_for g c).state c (answer_next g c).ret (answer_next g c).here.state)
+doings_of g c = map Takes (take (taken g c) g.rest) ++ map Says (said (ready_for g c).state c (answer_next g c).ret (answer_next g c).state.state)
 
 abbrev pub doings_from : Stage → List Request → List Doing
 doings_from g [] = []
-doings_from g (c ∷ cs) = doings_of g c ++ doings_from (serve_next g c) cs
+doings_from g (c ∷ cs) = doings_of g c ++ doings_from (serve_next g c).state cs
 
 -- what a log does outside over a script, as far as this has come
 unfoldable pub doings : Setup → List Arrival → List Entry → List Doing

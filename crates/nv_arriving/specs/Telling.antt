@@ -1,11 +1,12 @@
 -- What an outside tells of what was done.
 use Rattle.std.specs.Prelude.{◌≡◌, Bool, false, List, [], ◌++◌, map}
+use Rattle.nv_calls.specs.Answer.{state_after}
 use Rattle.nv_calls.specs.Calls.{Entry}
 use Rattle.nv_calls.specs.Logs.{calls_of}
 use Rattle.nv_script.specs.Scripts.{Setup}
 use Rattle.nv_arrivals.specs.Arrivals.{Arrival}
 use Rattle.nv_arrivals.specs.Doings.{Doing, Takes, takings, sayings, exchanges}
-use Rattle.nv_arriving.specs.Arriving.{first_stage, stage_after}
+use Rattle.nv_arriving.specs.Arriving.{serve_next, first_stage}
 use Rattle.nv_arriving.specs.Doings.{doings}
 
 -- from one object to the next just this was done, behind whatever was done before
@@ -18,7 +19,7 @@ pub record IsTold {O : Type 0} (did : O → O → List Doing → Type 0) (begun 
   pub is : did begun now done
   pub took : takings done ≡ came
   pub said : sayings done ≡ sayings (doings setup came log)
-  pub in_order : late ≡ false → exchanges done ≡ doings setup came log ++ map Takes (stage_after (first_stage setup came) (calls_of log)).rest
+  pub in_order : late ≡ false → exchanges done ≡ doings setup came log ++ map Takes (state_after serve_next (first_stage setup came) (calls_of log)).rest
 
 -- an outside that tells of itself that nothing was done at first tells all that was done
 abbrev pub Tells : {O : Type 0} → (O → O → List Doing → Type 0) → O → O → Setup → List Arrival → List Entry → Bool → Type 0

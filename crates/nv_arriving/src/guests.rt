@@ -309,7 +309,7 @@ impl GuestSide {
         requires capacity { MOST_BYTES ≤ out.old.capacity }
         requires clones { (standing_of self.old).state.own.crew.clones < MOST_EVENTS }
         ensures answer { serve_by (unless_vain vain (arrive_all (standing_of self.old) (map arrival_of arrivals.now))) (request call.now) (until_of (standing_of self.old) (request call.now))
-            ≡ record { here = standing_of self.new; ret = result; payload = out.new.bytes } }
+            ≡ record { state = standing_of self.new; ret = result; payload = out.new.bytes } }
         ensures said { Adds O.did outside.old outside.new (map Says (said (unless_vain vain (arrive_all (standing_of self.old) (map arrival_of arrivals.now))).state (request call.now) result (standing_of self.new).state)) }
         ensures stays { O.is_over outside.old → O.is_over outside.new }
         ensures capacity { out.new.capacity ≡ out.old.capacity }

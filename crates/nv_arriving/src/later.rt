@@ -30,7 +30,7 @@ impl GuestSide {
     fn answer_as(&mut self, call: &Call, until: Until, out: &mut Bytes) -> Option<i32>
         requires empty { out.old.bytes ≡ [] }
         requires capacity { MOST_BYTES ≤ out.old.capacity }
-        ensures answer { later_as (syscall_of call.now.nr) (standing_of self.old) (request call.now) until ≡ option_map (λ ret. record { here = counted (standing_of self.new); ret = ret; payload = out.new.bytes }) result }
+        ensures answer { later_as (syscall_of call.now.nr) (standing_of self.old) (request call.now) until ≡ option_map (λ ret. record { state = counted (standing_of self.new); ret = ret; payload = out.new.bytes }) result }
         ensures none { result ≡ None → self.new ≡ self.old }
         ensures capacity { out.new.capacity ≡ out.old.capacity }
         ensures served { (standing_of self.new).state.own.served ≡ (standing_of self.old).state.own.served }
@@ -55,7 +55,7 @@ impl GuestSide {
     fn answer_later(&mut self, call: &Call, until: Until, out: &mut Bytes) -> Option<i32>
         requires capacity { MOST_BYTES ≤ out.old.capacity }
         requires room { (standing_of self.old).state.own.served < MOST_EVENTS }
-        ensures answer { later (standing_of self.old) (request call.now) until ≡ option_map (λ ret. record { here = standing_of self.new; ret = ret; payload = out.new.bytes }) result }
+        ensures answer { later (standing_of self.old) (request call.now) until ≡ option_map (λ ret. record { state = standing_of self.new; ret = ret; payload = out.new.bytes }) result }
         ensures none { result ≡ None → self.new ≡ self.old }
         ensures capacity { out.new.capacity ≡ out.old.capacity }
         ensures sockets { self.new.host.sockets ≡ self.old.host.sockets }
@@ -94,7 +94,7 @@ impl GuestSide {
         requires few { (standing_of self.old).state.own.served < MOST_EVENTS }
         requires capacity { MOST_BYTES ≤ out.old.capacity }
         requires clones { (standing_of self.old).state.own.crew.clones < MOST_EVENTS }
-        ensures answer { serve_by (standing_of self.old) (request call.now) until ≡ record { here = standing_of self.new; ret = result.ret; payload = out.new.bytes } }
+        ensures answer { serve_by (standing_of self.old) (request call.now) until ≡ record { state = standing_of self.new; ret = result.ret; payload = out.new.bytes } }
         ensures said { said (standing_of self.old).state (request call.now) result.ret (standing_of self.new).state ≡ said_of result.did call.now.payload.bytes }
         ensures capacity { out.new.capacity ≡ out.old.capacity }
         ensures few { length out.new.bytes ≤ most_out (request call.now) }

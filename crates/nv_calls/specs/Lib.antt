@@ -8,3 +8,4 @@ pub mod Answers
 pub mod Shapes
 pub mod Constants
 pub mod Logs
+pub mod Answer

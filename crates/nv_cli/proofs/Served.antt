@@ -6,12 +6,13 @@ use Rattle.std.proofs.lemmas.Bool.{and_parts}
 use Rattle.nv_arrivals.specs.Arrivals.{Arrival, is_arrival, BringsBytes}
 use Rattle.nv_arrivals.specs.Order.{most_clients, are_orderly, are_arrivals}
 use Rattle.nv_arrivals.specs.Doings.{Doing, Takes, takings, sayings, handings, exchanges}
-use Rattle.nv_arriving.specs.Arriving.{first_stage, stage_after, start_of_arrivals, Satisfied}
+use Rattle.nv_arriving.specs.Arriving.{serve_next, first_stage, start_of_arrivals, Satisfied}
 use Rattle.nv_arriving.specs.Doings.{doings}
 use Rattle.nv_arriving.specs.Kernel.{Coming}
 use Rattle.nv_arriving.specs.Scripted.{start_from}
 use Rattle.nv_arriving.specs.Telling.{Tells, IsTold}
 use Rattle.nv_bpf.specs.declared.op.Op.{Op}
+use Rattle.nv_calls.specs.Answer.{state_after}
 use Rattle.nv_calls.specs.Calls.{Entry}
 use Rattle.nv_calls.specs.Logs.{calls_of}
 use Rattle.nv_command.specs.Words.{Limits}
@@ -129,7 +130,7 @@ module _ {I O T : Type 0} (took : I → Option (List (List ℕ))) (unread : I �
           took_all = t.took;
           said_all = t.said ∙ ap sayings (does_alike setup arrivals log);
           late = late;
-          in_order = subst (λ all. late ≡ false → exchanges done ≡ all ++ map Takes (stage_after (first_stage setup arrivals) (calls_of log)).rest) (does_alike setup arrivals log) t.in_order;
+          in_order = subst (λ all. late ≡ false → exchanges done ≡ all ++ map Takes (state_after serve_next (first_stage setup arrivals) (calls_of log)).rest) (does_alike setup arrivals log) t.in_order;
           stopped = source_stop later;
           line = line_of later;
           held = held_by later;

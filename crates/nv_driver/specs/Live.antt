@@ -3,8 +3,9 @@ use Rattle.std.specs.Prelude.{◌≡◌, ◌⊎◌, ℕ, ◌+◌, ◌-◌, Bool,
 use Rattle.std.specs.List.{All, prefix_len}
 use Rattle.nv_arrivals.specs.Arrivals.{Arrival, BringsBytes}
 use Rattle.nv_arrivals.specs.Doings.{Doing, Takes, takings, sayings, handings, exchanges}
-use Rattle.nv_arriving.specs.Arriving.{first_stage, stage_after, Satisfied}
+use Rattle.nv_arriving.specs.Arriving.{serve_next, first_stage, Satisfied}
 use Rattle.nv_arriving.specs.Doings.{doings}
+use Rattle.nv_calls.specs.Answer.{state_after}
 use Rattle.nv_calls.specs.Calls.{Entry}
 use Rattle.nv_calls.specs.Logs.{calls_of}
 use Rattle.nv_command.specs.Words.{Limits, Service}
@@ -132,7 +133,7 @@ pub record Lived (clients : Bool) (setup : Setup) (log : List Entry) (ending : E
   pub took_all : takings done ≡ setup.arrivals
   pub said_all : sayings done ≡ sayings (doings setup setup.arrivals log)
   pub late : Bool
-  pub in_order : late ≡ false → exchanges done ≡ doings setup setup.arrivals log ++ map Takes (stage_after (first_stage setup setup.arrivals) (calls_of log)).rest
+  pub in_order : late ≡ false → exchanges done ≡ doings setup setup.arrivals log ++ map Takes (state_after serve_next (first_stage setup setup.arrivals) (calls_of log)).rest
   pub stopped : Option Stopped
   pub line : List ℕ
   pub held : List ℕ

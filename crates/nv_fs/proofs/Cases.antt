@@ -4,8 +4,9 @@ use Rattle.std.specs.Int.{to_le_bytes, w64}
 use Rattle.nv_fs.specs.declared.open_file.OpenFile.{OpenFile}
 use Rattle.nv_fs.specs.declared.open_file.Target.{Target}
 use Rattle.nv_fs.specs.declared.open_file.Target.TheVariants.{Input, Console, File, Reader, Writer}
+use Rattle.nv_calls.specs.Answer.{answer, only}
 use Rattle.nv_calls.specs.Errors.{EBADF, ENOSPC, EFBIG, EPIPE, EAGAIN}
-use Rattle.nv_fs.specs.States.{FileState, answer, only, open_of, moved_to, has_open}
+use Rattle.nv_fs.specs.States.{FileState, open_of, moved_to, has_open}
 use Rattle.nv_fs.specs.Seeks.{seek_of, seek_open, seek_target, seek_from, seek_to, base_of, plus_signed}
 use Rattle.nv_fs.specs.Fetched.{read_of, read_open, read_target, read_pipe, hand_out, with_pipe, pipe_at}
 use Rattle.nv_fs.specs.Stored.{write_of, write_open, write_target, write_console, write_at, write_pipe, with_content, start_of}

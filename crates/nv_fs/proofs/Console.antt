@@ -1,11 +1,12 @@
 -- What calls on files print: a write to the console as many bytes as its result says, and no other call anything.
 use Rattle.std.proofs.Common.{◌≡◌, ◌∙◌, sym, ap, refl, ℕ, ℤ, pos, negsuc, ◌+◌, ◌-◌, min, cond, not, ◌||◌, ◌==◌, nat_le, nat_lt, List, [], ◌++◌, length, take, Option, Some, None, append-nil, Bool, true, false}
 use Rattle.std.proofs.lemmas.List.{length-take, take_min}
+use Rattle.nv_calls.specs.Answer.{Answer, only}
 use Rattle.nv_calls.specs.Errors.{EBADF, EINVAL, ENOSPC, EFBIG, EPIPE, EAGAIN}
 use Rattle.nv_fs.specs.declared.open_file.OpenFile.{OpenFile}
 use Rattle.nv_fs.specs.declared.open_file.Target.{Target}
 use Rattle.nv_fs.specs.declared.open_file.Target.TheVariants as target
-use Rattle.nv_fs.specs.States.{FileState, Answer, only, open_of, install, has_open}
+use Rattle.nv_fs.specs.States.{FileState, open_of, install, has_open}
 use Rattle.nv_fs.specs.Closes.{close_open, close_of, free_descriptor, share, dup_open, dup_of, shared_at, dup_onto, dup3_of}
 use Rattle.nv_fs.specs.Ends.{pipe_on, pipe_from, pipe_of, free_above, free_pipe, with_empty, with_ends}
 use Rattle.nv_fs.specs.Fetched.{read_of, pipe_at}
@@ -19,7 +20,7 @@ use Rattle.nv_fs.proofs.Cases.{by_test, seek_cases, read_cases}
 -- ---- a call that prints nothing
 
 module _ (s : FileState) where
-  abbrev Same : Answer → Type 0
+  abbrev Same : Answer FileState → Type 0
   Same a = a.state.console ≡ s.console
 
   close_cases : (fd : ℕ) (o : Option (ℕ × OpenFile)) → Same (close_open s fd o)
@@ -60,7 +61,7 @@ pub installed_in : (s t : FileState) (fd : ℕ) (o : OpenFile) → t.console ≡
 installed_in s t fd o e = installed t fd o ∙ e
 
 module _ (s : FileState) where
-  abbrev Kept : Answer → Type 0
+  abbrev Kept : Answer FileState → Type 0
   Kept a = a.state.console ≡ s.console
 
   ends_kept : (k reading writing : ℕ) → (with_ends s k reading writing).console ≡ s.console
@@ -135,7 +136,7 @@ shown true (negsuc n) bytes = []
 shown false ret bytes = []
 
 module _ (s : FileState) (bytes : List ℕ) where
-  abbrev Prints : Bool → Answer → Type 0
+  abbrev Prints : Bool → Answer FileState → Type 0
   Prints to a = a.state.console ≡ s.console ++ shown to a.ret bytes
 
   none : s.console ≡ s.console ++ []

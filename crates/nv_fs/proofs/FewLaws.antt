@@ -6,8 +6,9 @@ use Rattle.std.proofs.lemmas.List.{length-take}
 use Rattle.nv_fs.specs.declared.open_file.OpenFile.{OpenFile}
 use Rattle.nv_fs.specs.declared.open_file.Target.{Target}
 use Rattle.nv_fs.specs.declared.open_file.Target.TheVariants.{Input, Console, File, Reader, Writer}
+use Rattle.nv_calls.specs.Answer.{Answer, answer, only}
 use Rattle.nv_calls.specs.Errors.{EBADF, EINVAL}
-use Rattle.nv_fs.specs.States.{FileState, Answer, answer, only, open_of, moved_to}
+use Rattle.nv_fs.specs.States.{FileState, open_of, moved_to}
 use Rattle.nv_fs.specs.Closes.{free_descriptor}
 use Rattle.nv_fs.specs.Ends.{pipe_of, pipe_from, pipe_on, free_above}
 use Rattle.nv_fs.specs.Seeks.{seek_of, seek_open, seek_target, seek_from, seek_to, base_of, plus_signed}
@@ -16,7 +17,7 @@ use Rattle.nv_fs.specs.Fetched.{read_of, read_open, read_target, read_pipe, hand
 take_few : (n : ℕ) (xs : List ℕ) → length (take n xs) ≤ n
 take_few n xs = omega (arith, length-take n xs)
 
-by_test : (b : Bool) (x y : Answer) (n : ℕ) → length x.payload ≤ n → length y.payload ≤ n → length (cond b x y).payload ≤ n
+by_test : (b : Bool) (x y : Answer FileState) (n : ℕ) → length x.payload ≤ n → length y.payload ≤ n → length (cond b x y).payload ≤ n
 by_test true x y n p q = p
 by_test false x y n p q = q
 

@@ -3,7 +3,8 @@ use Rattle.std.proofs.Common.{◌≡◌, ◌∙◌, ℕ, ◌+◌, ◌≤◌, Lis
 use Rattle.std.specs.Prelude.{nat_lt}
 use Rattle.std.proofs.lemmas.Bool.{cond-false, le-ltb, not_from_true}
 use Rattle.nv_fs.specs.declared.open_file.Target.TheVariants.{Reader}
-use Rattle.nv_fs.specs.States.{FileState, answer, has_open}
+use Rattle.nv_calls.specs.Answer.{answer}
+use Rattle.nv_fs.specs.States.{FileState, has_open}
 use Rattle.nv_fs.specs.Fetched.{pipe_at, with_pipe}
 use Rattle.nv_fs.specs.Stored.{write_pipe}
 

@@ -1,6 +1,7 @@
 -- The definitions, computed on two worked runs of calls.
 use Rattle.std.proofs.Common.{◌≡◌, refl, false, ℕ, ℤ, pos, negsuc, List, [], ◌∷◌, Some}
-use Rattle.nv_fs.specs.States.{FileState, Answer, open_of, has_open, is_shared, is_kept, is_pipe, free_open, install}
+use Rattle.nv_calls.specs.Answer.{Answer}
+use Rattle.nv_fs.specs.States.{FileState, open_of, has_open, is_shared, is_kept, is_pipe, free_open, install}
 use Rattle.nv_fs.specs.Starts.{first_state, first_descriptors}
 use Rattle.nv_fs.specs.Closes.{close_of, dup_of, free_descriptor}
 use Rattle.nv_fs.specs.Names.{file_of, resolved}
@@ -10,26 +11,26 @@ use Rattle.nv_fs.specs.Fetched.{read_of}
 use Rattle.nv_fs.specs.Stored.{write_of}
 
 -- what a call answers
-abbrev shown : Answer → ℤ × List ℕ
+abbrev shown : Answer FileState → ℤ × List ℕ
 shown a = (a.ret, a.payload)
 
 -- the file `f` with `abcd`
 abbrev start : FileState
 start = first_state false [] (record { name = Some (102 ∷ []); bytes = 97 ∷ 98 ∷ 99 ∷ 100 ∷ [] } ∷ [])
 
-abbrev open_f : FileState → ℕ → Answer
+abbrev open_f : FileState → ℕ → Answer FileState
 open_f s flags = open_at_of s (negsuc 99) (102 ∷ []) flags
 
-abbrev opened : Answer
+abbrev opened : Answer FileState
 opened = open_f start 0
 
-abbrev twin : Answer
+abbrev twin : Answer FileState
 twin = dup_of opened.state 3
 
-abbrev first_part : Answer
+abbrev first_part : Answer FileState
 first_part = read_of twin.state 3 2
 
-abbrev second_part : Answer
+abbrev second_part : Answer FileState
 second_part = read_of first_part.state 4 2
 
 dup_shares_the_offset : shown opened ∷ shown twin ∷ shown first_part ∷ shown second_part ∷ []
@@ -37,19 +38,19 @@ dup_shares_the_offset : shown opened ∷ shown twin ∷ shown first_part ∷ sho
 unfolding open_at_of dup_of read_of resolved file_of free_descriptor first_descriptors install free_open is_shared open_of
 dup_shares_the_offset = refl
 
-abbrev gone : Answer
+abbrev gone : Answer FileState
 gone = unlink_at_of opened.state (negsuc 99) (102 ∷ []) 0
 
-abbrev whole : Answer
+abbrev whole : Answer FileState
 whole = read_of gone.state 3 4
 
-abbrev missing : Answer
+abbrev missing : Answer FileState
 missing = open_f whole.state 0
 
-abbrev made : Answer
+abbrev made : Answer FileState
 made = open_f missing.state 194
 
-abbrev there : Answer
+abbrev there : Answer FileState
 there = open_f made.state 194
 
 unlinked_stays_open : shown gone ∷ shown whole ∷ shown missing ∷ shown made ∷ shown there ∷ []
@@ -57,22 +58,22 @@ unlinked_stays_open : shown gone ∷ shown whole ∷ shown missing ∷ shown mad
 unfolding open_at_of unlink_at_of read_of resolved file_of free_descriptor first_descriptors install free_open is_shared open_of free_file is_kept has_open
 unlinked_stays_open = refl
 
-abbrev piped : Answer
+abbrev piped : Answer FileState
 piped = pipe_of there.state 0
 
-abbrev empty : Answer
+abbrev empty : Answer FileState
 empty = read_of piped.state 5 1
 
-abbrev put : Answer
+abbrev put : Answer FileState
 put = write_of empty.state 6 (120 ∷ [])
 
-abbrev closed : Answer
+abbrev closed : Answer FileState
 closed = close_of put.state 6
 
-abbrev taken : Answer
+abbrev taken : Answer FileState
 taken = read_of closed.state 5 1
 
-abbrev at_end : Answer
+abbrev at_end : Answer FileState
 at_end = read_of taken.state 5 1
 
 a_pipe_ends : shown piped ∷ shown empty ∷ shown put ∷ shown closed ∷ shown taken ∷ shown at_end ∷ []

@@ -1,5 +1,5 @@
 -- Descriptors, open file descriptions and files (open(2), "Open file descriptions"; path_resolution(7)), as lists whose places are the numbers.
-use Rattle.std.specs.Prelude.{ℕ, zero, suc, ℤ, ◌+◌, Bool, false, not, ◌||◌, ◌==◌, nat_lt, List, [], ◌∷◌, ◌++◌, length, Option, Some, None, is_some, slice_get, slice_index_or, slice_set, option_map, if◌then◌else◌}
+use Rattle.std.specs.Prelude.{ℕ, zero, suc, ◌+◌, Bool, false, not, ◌||◌, ◌==◌, nat_lt, List, [], ◌∷◌, ◌++◌, length, Option, Some, None, is_some, slice_get, slice_index_or, slice_set, option_map, if◌then◌else◌}
 use Rattle.std.specs.List.{list_any}
 use Rattle.nv_fs.specs.declared.open_file.OpenFile.{OpenFile}
 use Rattle.nv_fs.specs.declared.open_file.Target.{Target}
@@ -19,19 +19,6 @@ pub record FileState : Type 0 where
   pub input : List ℕ
   pub console : List ℕ
   pub limit : ℕ
-
--- what a call leaves, its result, and the bytes that it hands out
-pub record Answer : Type 0 where
-  pub state : FileState
-  pub ret : ℤ
-  pub payload : List ℕ
-
-abbrev pub answer : FileState → ℤ → List ℕ → Answer
-answer s ret payload = record { state = s; ret = ret; payload = payload }
-
--- an answer that changes nothing and hands out nothing
-abbrev pub only : FileState → ℤ → Answer
-only s ret = answer s ret []
 
 -- the open file of a number, with the number
 abbrev pub numbered : List OpenFile → Option ℕ → Option (ℕ × OpenFile)

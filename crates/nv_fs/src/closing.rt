@@ -1,6 +1,6 @@
 // close, dup and dup3.
 ghost use Rattle.std.specs.Prelude.{◌≡◌, []};
-ghost use Rattle.nv_fs.specs.States.{answer};
+ghost use Rattle.nv_calls.specs.Answer.{answer};
 ghost use Rattle.nv_fs.specs.Closes.{close_of, dup_of, dup3_of};
 
 use crate::disk::{DESCRIPTORS, FileSystem};

@@ -2,7 +2,8 @@
 ghost use Rattle.std.specs.Prelude.{◌≡◌, ◌+◌, ◌≤◌, ◌<◌, [], ◌++◌, length, map, option_map, is_none, drop, IfSome, OnOk, vec_capacity, true, false};
 ghost use Rattle.std.specs.List.{position_from};
 ghost use Rattle.std.specs.Int.{to_le_bytes, w32};
-ghost use Rattle.nv_fs.specs.States.{answer, with_at};
+ghost use Rattle.nv_calls.specs.Answer.{answer};
+ghost use Rattle.nv_fs.specs.States.{with_at};
 ghost use Rattle.nv_fs.specs.Ends.{pipe_of, pipe_on, with_ends, with_empty, free_above, free_pipe};
 ghost use Rattle.nv_fs.specs.Kept.{KeepsBlocks};
 ghost use Rattle.nv_fs.specs.Reserved.{CanPipe};

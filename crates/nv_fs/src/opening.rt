@@ -1,6 +1,7 @@
 // openat and unlinkat.
 ghost use Rattle.std.specs.Prelude.{◌≡◌, ◌+◌, ◌≤◌, ◌<◌, [], None, length, OnOk, vec_capacity};
-ghost use Rattle.nv_fs.specs.States.{answer, with_at};
+ghost use Rattle.nv_calls.specs.Answer.{answer};
+ghost use Rattle.nv_fs.specs.States.{with_at};
 ghost use Rattle.nv_fs.specs.Opened.{open_at_of, unlink_at_of, opened, has_flag, truncated, with_file, create, exclusive_error, open_file, open_at_descriptor, open_unless, unlinked};
 ghost use Rattle.nv_fs.specs.Stored.{with_content};
 ghost use Rattle.nv_fs.specs.Kept.{KeepsBlocks};

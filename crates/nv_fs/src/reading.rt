@@ -1,6 +1,6 @@
 // read.
 ghost use Rattle.std.specs.Prelude.{◌≡◌, ◌+◌, ◌≤◌, ◌<◌, ◌^◌, length, take, drop};
-ghost use Rattle.nv_fs.specs.States.{answer};
+ghost use Rattle.nv_calls.specs.Answer.{answer};
 ghost use Rattle.nv_fs.specs.Views.{bytes_in};
 ghost use Rattle.nv_fs.specs.Fetched.{read_of, read_input, read_file, read_pipe, read_target, with_pipe, pipe_at};
 

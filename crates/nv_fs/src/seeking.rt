@@ -1,6 +1,6 @@
 // _llseek.
 ghost use Rattle.std.specs.Prelude.{◌≡◌, ◌≤◌, ◌<◌, ◌+◌, ◌*◌, length};
-ghost use Rattle.nv_fs.specs.States.{answer};
+ghost use Rattle.nv_calls.specs.Answer.{answer};
 ghost use Rattle.nv_fs.specs.Seeks.{seek_of, base_of, plus_signed, seek_from, SumIs};
 
 use crate::disk::FileSystem;

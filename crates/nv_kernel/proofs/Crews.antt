@@ -5,6 +5,7 @@ use Rattle.std.proofs.lemmas.Bool.Decides.{nat_tests}
 use Rattle.nv_calls.specs.declared.numbers.Syscall.{Syscall}
 use Rattle.nv_calls.specs.declared.numbers.Syscall.TheVariants.{Ioctl, Readv, Writev, Clone, Exit, ExitGroup, ClockGettime64}
 use Rattle.nv_calls.specs.Errors.{EFAULT}
+use Rattle.nv_calls.specs.Answer.{Answer, only, state_after}
 use Rattle.nv_calls.specs.Calls.{Request}
 use Rattle.nv_calls.specs.Numbers.{syscall_of, has_range}
 use Rattle.nv_calls.specs.Shapes.{IsShaped}
@@ -13,7 +14,7 @@ use Rattle.nv_fs.specs.States.{is_open}
 use Rattle.nv_kernel.specs.Crew.{Crew, IsCrew, clone_as, may_clone}
 use Rattle.nv_kernel.proofs.CrewLaws.{clone_crew, exit_crew, clone_new}
 use Rattle.nv_kernel.proofs.ReplyLaws.{good}
-use Rattle.nv_kernel.specs.Serving.{State, Served, replied, counted, answered, serve, state_after}
+use Rattle.nv_kernel.specs.Serving.{State, counted, answered, serve}
 use Rattle.nv_kernel.proofs.Going.{not_made}
 
 -- a call that makes or ends threads
@@ -23,7 +24,7 @@ is_thread Exit = true
 is_thread ExitGroup = true
 is_thread _ = false
 
-crew_by : (b : Bool) (x y : Served) (w : Crew) → x.state.crew ≡ w → y.state.crew ≡ w → (cond b x y).state.crew ≡ w
+crew_by : (b : Bool) (x y : Answer State) (w : Crew) → x.state.crew ≡ w → y.state.crew ≡ w → (cond b x y).state.crew ≡ w
 crew_by true x y w p q = p
 crew_by false x y w p q = q
 
@@ -52,24 +53,24 @@ few_as k s c = more (crew_as k s c refl)
     more : {x : Crew} → x ≡ s.crew → x.clones ≤ s.crew.clones + 1
     more h = let e = ap (λ (z : Crew). z.clones) h in omega (arith, e)
 
-few_by : (b : Bool) (x y : Served) (n : ℕ) → x.state.crew.clones ≤ n → y.state.crew.clones ≤ n → (cond b x y).state.crew.clones ≤ n
+few_by : (b : Bool) (x y : Answer State) (n : ℕ) → x.state.crew.clones ≤ n → y.state.crew.clones ≤ n → (cond b x y).state.crew.clones ≤ n
 few_by true x y n p q = p
 few_by false x y n p q = q
 
 few_more : (s : State) (c : Request) → (serve s c).state.crew.clones ≤ s.crew.clones + 1
 unfolding serve
-few_more s c = few_by c.bad (replied s EFAULT []) (answered (syscall_of c.nr) s c) (s.crew.clones + 1) (omega arith) (few_as (syscall_of c.nr) s c)
+few_more s c = few_by c.bad (only s EFAULT) (answered (syscall_of c.nr) s c) (s.crew.clones + 1) (omega arith) (few_as (syscall_of c.nr) s c)
 
 -- no more clones succeeded than calls were served
-pub few_clones_after : (s : State) (cs : List Request) → (state_after s cs).crew.clones ≤ s.crew.clones + length cs
+pub few_clones_after : (s : State) (cs : List Request) → (state_after serve s cs).crew.clones ≤ s.crew.clones + length cs
 few_clones_after s [] = omega arith
 few_clones_after s (c ∷ cs) = let h = few_clones_after (serve s c).state cs in let k = few_more s c in omega (arith, h, k)
 
 served_as : (s : State) (c : Request) (k : Syscall) → IsShaped c → syscall_of c.nr ≡ k → has_range k ≡ false → serve s c ≡ counted (answered k s c)
 unfolding serve
 served_as s c k h e r =
-    ap (λ (z : Syscall). counted (cond c.bad (replied s EFAULT []) (answered z s c))) e
-    ∙ ap (λ (b : Bool). counted (cond b (replied s EFAULT []) (answered k s c))) (good c k h e r)
+    ap (λ (z : Syscall). counted (cond c.bad (only s EFAULT) (answered z s c))) e
+    ∙ ap (λ (b : Bool). counted (cond b (only s EFAULT) (answered k s c))) (good c k h e r)
 
 clone_at : (nr : ℕ) → nr ≡ 220 → syscall_of nr ≡ Clone
 unfolding syscall_of
@@ -108,7 +109,7 @@ abbrev pub live_by : ℕ → ℕ → List ℕ → ℤ → List ℕ
 live_by nr tid live ret = cond (nr == 94) [] (cond (nr == 93) (filter (λ t. not (t == tid)) live) (with_child live (made nr ret)))
 
 -- what a call leaves of the threads that live
-pub record CrewStep (s : State) (c : Request) (r : Served) : Type 0 where
+pub record CrewStep (s : State) (c : Request) (r : Answer State) : Type 0 where
   pub is : IsCrew r.state.crew
   pub new : IsNew s.crew.live (made c.nr r.ret)
   pub live : r.state.crew.live ≡ live_by c.nr c.tid s.crew.live r.ret
@@ -148,7 +149,7 @@ clone_step s c i h =
     }
 
 -- a call that makes and ends no thread
-plain_step : (s : State) (c : Request) (r : Served) → IsCrew s.crew → r.state.crew ≡ s.crew → (c.nr == 94) ≡ false → (c.nr == 93) ≡ false → (c.nr == 220) ≡ false → CrewStep s c r
+plain_step : (s : State) (c : Request) (r : Answer State) → IsCrew s.crew → r.state.crew ≡ s.crew → (c.nr == 94) ≡ false → (c.nr == 93) ≡ false → (c.nr == 220) ≡ false → CrewStep s c r
 plain_step s c r i e p q n =
     let none = not_made c.nr r.ret n in
     record {
@@ -160,7 +161,7 @@ plain_step s c r i e p q n =
 
 plain_served : (s : State) (c : Request) → is_thread (syscall_of c.nr) ≡ false → (serve s c).state.crew ≡ s.crew
 unfolding serve
-plain_served s c h = crew_by c.bad (replied s EFAULT []) (answered (syscall_of c.nr) s c) s.crew refl (crew_as (syscall_of c.nr) s c h)
+plain_served s c h = crew_by c.bad (only s EFAULT) (answered (syscall_of c.nr) s c) s.crew refl (crew_as (syscall_of c.nr) s c h)
 
 pub crew_step : (s : State) (c : Request) → IsCrew s.crew → IsShaped c → CrewStep s c (serve s c)
 crew_step s c i h = by (c.nr == 94) (c.nr == 93) (c.nr == 220) refl refl refl

@@ -3,21 +3,22 @@ use Rattle.std.proofs.Common.{◌≡◌, sym, subst, refl, ℕ, pos, ◌+◌, �
 use Rattle.std.specs.Prelude.{slice_index}
 use Rattle.std.proofs.lemmas.Bool.Decides.{nat_tests}
 use Rattle.nv_calls.specs.declared.numbers.Syscall.{Syscall}
+use Rattle.nv_calls.specs.Answer.{Answer}
 use Rattle.nv_calls.specs.Calls.{Request}
 use Rattle.nv_calls.specs.Constants.{result_alone, directory, names}
 use Rattle.nv_calls.specs.Errors.{ERANGE}
-use Rattle.nv_kernel.specs.Serving.{Served}
 use Rattle.nv_calls.specs.declared.numbers.Syscall.TheVariants.{Unlinkat, Openat, Write, Writev, Bind, ClockNanosleep, Pselect6, Ppoll}
 use Rattle.nv_calls.specs.Numbers.{syscall_of, hands_in}
 use Rattle.nv_calls.specs.Shapes.{IsShaped}
 use Rattle.nv_calls.proofs.ShapeLaws.{polled_count-few, set_bytes-few, shaped-few, shaped-empty, shaped-selected, shaped-polled}
 use Rattle.nv_calls.specs.Answers.{most_out_by}
 use Rattle.nv_kernel.specs.Reserved.{most_out}
+use Rattle.nv_kernel.specs.Serving.{State}
 
 pub few_as : (k l : Syscall) (args : List ℕ) (n : ℕ) → k ≡ l → n ≤ most_out_by l args → n ≤ most_out_by k args
 few_as k l args n h p = subst (λ (z : Syscall). n ≤ most_out_by z args) (sym h) p
 
-pub few_by : (b : Bool) (x y : Served) (n : ℕ) → length x.payload ≤ n → length y.payload ≤ n → length (cond b x y).payload ≤ n
+pub few_by : (b : Bool) (x y : Answer State) (n : ℕ) → length x.payload ≤ n → length y.payload ≤ n → length (cond b x y).payload ≤ n
 few_by true x y n p q = p
 few_by false x y n p q = q
 

@@ -3,20 +3,17 @@ use Rattle.std.proofs.Common.{◌≡◌, ◌∙◌, ap, refl, ℕ, ℤ, pos, neg
 use Rattle.std.specs.Prelude.{slice_index}
 use Rattle.nv_calls.specs.declared.numbers.Syscall.{Syscall}
 use Rattle.nv_calls.specs.declared.numbers.Syscall.TheVariants.{Ioctl, Readv, Writev, ClockGettime64}
+use Rattle.nv_calls.specs.Answer.{Answer, only, reply_of, state_after}
 use Rattle.nv_calls.specs.Calls.{Request, Entry}
 use Rattle.nv_calls.specs.Errors.{EFAULT}
 use Rattle.nv_calls.specs.Numbers.{syscall_of}
 use Rattle.nv_calls.specs.Logs.{made, calls_of, call_of, output_of}
 use Rattle.nv_fs.specs.States.{is_open}
 use Rattle.nv_script.specs.Scripts.{Setup}
-use Rattle.nv_kernel.specs.Serving.{State, Served, replied, answered, serve, state_after, reply_of, first_state, start_of_script}
+use Rattle.nv_kernel.specs.Serving.{State, answered, serve, first_state, start_of_script}
 use Rattle.nv_kernel.proofs.Keeping.{map_more}
 
-pub state_more : (s : State) (cs : List Request) (c : Request) → state_after s (cs ++ c ∷ []) ≡ (serve (state_after s cs) c).state
-state_more s [] c = refl
-state_more s (d ∷ cs) c = state_more (serve s d).state cs c
-
-count_by : (b : Bool) (x y : Served) (n : ℕ) → x.state.served ≡ n → y.state.served ≡ n → (cond b x y).state.served ≡ n
+count_by : (b : Bool) (x y : Answer State) (n : ℕ) → x.state.served ≡ n → y.state.served ≡ n → (cond b x y).state.served ≡ n
 count_by true x y n p q = p
 count_by false x y n p q = q
 
@@ -29,10 +26,10 @@ count_as _ s c = refl
 
 count_more : (s : State) (c : Request) → (serve s c).state.served ≡ s.served + 1
 unfolding serve
-count_more s c = ap (λ n. n + 1) (count_by c.bad (replied s EFAULT []) (answered (syscall_of c.nr) s c) s.served refl (count_as (syscall_of c.nr) s c))
+count_more s c = ap (λ n. n + 1) (count_by c.bad (only s EFAULT) (answered (syscall_of c.nr) s c) s.served refl (count_as (syscall_of c.nr) s c))
 
 -- the state counts the calls
-pub count_is : (s : State) (cs : List Request) → (state_after s cs).served ≡ s.served + length cs
+pub count_is : (s : State) (cs : List Request) → (state_after serve s cs).served ≡ s.served + length cs
 count_is s [] = omega arith
 count_is s (c ∷ cs) = let h = count_is (serve s c).state cs in let k = count_more s c in omega (arith, h, k)
 
@@ -41,17 +38,21 @@ not_made nr (pos n) h = ap (λ b. cond {A = Option ℕ} (b && not (n == 0)) (Som
 not_made nr (negsuc n) h = refl
 
 -- the reply to a call, and the console, by the state after the calls before
-pub reply_is : (setup : Setup) (log : List Entry) (c : Request) → (start_of_script setup).replies (calls_of log) c ≡ reply_of (serve (state_after (first_state setup) (calls_of log)) c)
+pub reply_is : (setup : Setup) (log : List Entry) (c : Request) → (start_of_script setup).replies (calls_of log) c ≡ reply_of (serve (state_after serve (first_state setup) (calls_of log)) c)
 unfolding start_of_script
 reply_is setup log c = refl
 
-pub output_is : (setup : Setup) (log : List Entry) → output_of (start_of_script setup) log ≡ (state_after (first_state setup) (calls_of log)).files.console
+pub output_is : (setup : Setup) (log : List Entry) → output_of (start_of_script setup) log ≡ (state_after serve (first_state setup) (calls_of log)).files.console
 unfolding start_of_script
 output_is setup log = refl
 
--- the state after one more entry
-pub log_more : (setup : Setup) (log : List Entry) (e : Entry) → state_after (first_state setup) (calls_of (log ++ e ∷ [])) ≡ (serve (state_after (first_state setup) (calls_of log)) e.call).state
-log_more setup log e = ap (state_after (first_state setup)) (map_more call_of log e) ∙ state_more (first_state setup) (calls_of log) e.call
+-- the state after one more call, and after one more entry, whatever answers
+state_more : {S : Type 0} (by : S → Request → Answer S) (s : S) (cs : List Request) (c : Request) → state_after by s (cs ++ c ∷ []) ≡ (by (state_after by s cs) c).state
+state_more by s [] c = refl
+state_more by s (d ∷ cs) c = state_more by (by s d).state cs c
 
-pub log_count : (setup : Setup) (log : List Entry) → (state_after (first_state setup) (calls_of log)).served ≡ length (calls_of log)
+pub log_more : {S : Type 0} (by : S → Request → Answer S) (s : S) (log : List Entry) (e : Entry) → state_after by s (calls_of (log ++ e ∷ [])) ≡ (by (state_after by s (calls_of log)) e.call).state
+log_more by s log e = ap (state_after by s) (map_more call_of log e) ∙ state_more by s (calls_of log) e.call
+
+pub log_count : (setup : Setup) (log : List Entry) → (state_after serve (first_state setup) (calls_of log)).served ≡ length (calls_of log)
 log_count setup log = let h = count_is (first_state setup) (calls_of log) in omega (arith, h)

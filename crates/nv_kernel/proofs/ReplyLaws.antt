@@ -1,9 +1,10 @@
 -- A reply that is the same in every state is what the kernel replies in each.
-use Rattle.std.proofs.Common.{◌≡◌, ◌∙◌, ap, refl, ℕ, ℤ, Bool, true, false, cond, ◌||◌, not, List, [], Option, Some, None}
+use Rattle.std.proofs.Common.{◌≡◌, ◌∙◌, ap, refl, ℕ, ℤ, Bool, true, false, cond, ◌||◌, not, List, Option, Some, None}
 use Rattle.std.specs.Prelude.{option_map, IfSome}
 use Rattle.std.proofs.lemmas.Option.{same_Some}
 use Rattle.nv_calls.specs.declared.numbers.Syscall.{Syscall}
 use Rattle.nv_calls.specs.declared.numbers.Syscall.TheVariants.{Getcwd, Uname, Getpid, Getppid, Getuid, Geteuid, Getgid, Getegid}
+use Rattle.nv_calls.specs.Answer.{only, reply_of}
 use Rattle.nv_calls.specs.Calls.{Request, Response}
 use Rattle.nv_calls.specs.Constants.{result_alone, system, process, parent, user, constant_by, constant_of}
 use Rattle.nv_calls.specs.Errors.{EFAULT}
@@ -11,11 +12,11 @@ use Rattle.nv_calls.specs.Numbers.{syscall_of, has_range}
 use Rattle.nv_calls.specs.Shapes.{IsShaped}
 use Rattle.nv_calls.proofs.ShapeLaws.{shaped-parts}
 use Rattle.nv_kernel.specs.EveryState.{IsAlwaysReplied}
-use Rattle.nv_kernel.specs.Serving.{State, replied, always, answered, serve, reply_of}
+use Rattle.nv_kernel.specs.Serving.{State, always, answered, serve}
 
 -- what the kernel replies, by the call and by whether it is bad
 abbrev reply_by : Syscall → Bool → State → Request → Response
-reply_by k bad s c = reply_of (cond bad (replied s EFAULT []) (answered k s c))
+reply_by k bad s c = reply_of (cond bad (only s EFAULT) (answered k s c))
 
 reply_is : (s : State) (c : Request) → reply_of (serve s c) ≡ reply_by (syscall_of c.nr) c.bad s c
 unfolding serve
@@ -29,11 +30,11 @@ good_by true range h k = (let z : range ≡ true = k in cc)
 pub good : (c : Request) (k : Syscall) → IsShaped c → syscall_of c.nr ≡ k → has_range k ≡ false → c.bad ≡ false
 good c k h e r = good_by c.bad (has_range (syscall_of c.nr)) (ap has_range e ∙ r) (shaped-parts c h).bad
 
-range_by : (bad : Bool) (s : State) (x r : Response) → Some (cond bad (result_alone EFAULT) x) ≡ Some r → reply_of (cond bad (replied s EFAULT []) (always s x)) ≡ r
+range_by : (bad : Bool) (s : State) (x r : Response) → Some (cond bad (result_alone EFAULT) x) ≡ Some r → reply_of (cond bad (only s EFAULT) (always s x)) ≡ r
 range_by true s x r h = same_Some _ r h
 range_by false s x r h = same_Some _ r h
 
-always_by : (bad : Bool) (s : State) (x r : Response) → bad ≡ false → Some x ≡ Some r → reply_of (cond bad (replied s EFAULT []) (always s x)) ≡ r
+always_by : (bad : Bool) (s : State) (x r : Response) → bad ≡ false → Some x ≡ Some r → reply_of (cond bad (only s EFAULT) (always s x)) ≡ r
 always_by true s x r b h = cc
 always_by false s x r b h = same_Some _ r h
 

@@ -1,6 +1,7 @@
 -- Where the devices stand, from call to call.
 use Rattle.std.proofs.Common.{◌≡◌, ◌∙◌, sym, ap, subst, ℕ, ℤ, ◌<◌, List, [], ◌∷◌, ◌++◌, arith}
 use Rattle.std.proofs.lemmas.List.{length-map}
+use Rattle.nv_calls.specs.Answer.{Answer, reply_of}
 use Rattle.nv_calls.specs.Calls.{Request, Response, Entry}
 use Rattle.nv_calls.specs.Logs.{IsNew, made, served, child_of, calls_of, call_of, live_after, live_next}
 use Rattle.nv_calls.specs.Shapes.{IsShaped}
@@ -8,7 +9,7 @@ use Rattle.nv_calls.proofs.LogLaws.{live_more}
 use Rattle.nv_script.specs.Scripts.{Setup}
 use Rattle.nv_kernel.specs.Answering.{AtLog, MayCome, IsAnswer}
 use Rattle.nv_kernel.specs.Crew.{IsCrew}
-use Rattle.nv_kernel.specs.Serving.{State, Served, start_of_script, first_state, serve, reply_of}
+use Rattle.nv_kernel.specs.Serving.{State, start_of_script, first_state, serve}
 use Rattle.nv_kernel.specs.Standing.{StandsAt}
 use Rattle.nv_kernel.proofs.CrewLaws.{first_is}
 use Rattle.nv_kernel.proofs.Crews.{CrewStep, crew_step, few_clones_after, live_by}
@@ -51,20 +52,20 @@ module _ (s t : State) (c : Request) (ret : ℤ) (payload : List ℕ) (shaped : 
     step = crew_step s c here.crew shaped
 
     same_ret : e.reply.ret ≡ (serve s c).ret
-    same_ret = ap (λ (r : Response). r.ret) reply ∙ sym (ap (λ (r : Served). r.ret) answer)
+    same_ret = ap (λ (r : Response). r.ret) reply ∙ sym (ap (λ (r : Answer State). r.ret) answer)
 
     new : IsNew (live_after log) (child_of e)
     new = subst (λ (z : List ℕ). IsNew z (child_of e)) (sym here.live) (subst (λ (r : ℤ). IsNew s.crew.live (made c.nr r)) (sym same_ret) step.new)
 
     live : live_after (log ++ e ∷ []) ≡ t.crew.live
     live = live_more log e ∙ ap (λ (z : List ℕ). live_next z e) here.live ∙ ap (λ (r : ℤ). live_by c.nr c.tid s.crew.live r) same_ret
-        ∙ sym step.live ∙ ap (λ (r : Served). r.state.crew.live) answer
+        ∙ sym step.live ∙ ap (λ (r : Answer State). r.state.crew.live) answer
 
     next : StandsAt setup (log ++ e ∷ []) t
     next = record {
-      state = sym (ap (λ (r : Served). r.state) answer) ∙ ap (λ (z : State). (serve z c).state) here.state ∙ sym (log_more setup log e);
+      state = sym (ap (λ (r : Answer State). r.state) answer) ∙ ap (λ (z : State). (serve z c).state) here.state ∙ sym (log_more serve (first_state setup) log e);
       live = live;
-      crew = subst (λ (r : Served). IsCrew r.state.crew) answer step.is;
+      crew = subst (λ (r : Answer State). IsCrew r.state.crew) answer step.is;
     }
 
   -- the devices answer as the definition says, wherever they stand

@@ -3,14 +3,14 @@ use Rattle.std.specs.Prelude.{ℕ, zero, suc, ℤ, pos, ◌+◌, ◌*◌, ◌-�
 use Rattle.std.specs.Int.{cast_signed, to_le_bytes, w32, w64}
 use Rattle.nv_calls.specs.declared.numbers.Syscall.{Syscall}
 use Rattle.nv_calls.specs.declared.numbers.Syscall.TheVariants.{Getcwd, Dup, Dup3, Ioctl, Unlinkat, Openat, Close, Pipe2, Llseek, Read, Write, Readv, Writev, Exit, ExitGroup, Uname, Getpid, Getppid, Getuid, Geteuid, Getgid, Getegid, Clone, Getrandom, ClockGettime64}
+use Rattle.nv_calls.specs.Answer.{Answer, answer, only, start_at}
 use Rattle.nv_calls.specs.Calls.{Request, Response}
 use Rattle.nv_calls.specs.Constants.{directory, system, process, parent, user}
 use Rattle.nv_calls.specs.Errors.{EBADF, EFAULT, EINVAL, ENOTTY, ENOSYS}
 use Rattle.nv_calls.specs.Limits.{MOST_BYTES, MOST_VECTORS}
 use Rattle.nv_calls.specs.Logs.{Start}
 use Rattle.nv_calls.specs.Numbers.{syscall_of}
-use Rattle.nv_fs.specs.States as fs
-use Rattle.nv_fs.specs.States.{is_open}
+use Rattle.nv_fs.specs.States.{Inode, FileState, is_open}
 use Rattle.nv_fs.specs.Starts as begun
 use Rattle.nv_fs.specs.Closes.{close_of, dup_of, dup3_of}
 use Rattle.nv_fs.specs.Ends.{pipe_of}
@@ -25,37 +25,27 @@ use Rattle.nv_kernel.specs.Crew.{Crew, first_crew, clone_of, exit_of, with_none_
 
 -- The files; the threads that live; how many calls were served; the clock at the first call and how far each call moves it, in nanoseconds; the generator's state.
 pub record State : Type 0 where
-  pub files : fs.FileState
+  pub files : FileState
   pub crew : Crew
   pub served : ℕ
   pub start : ℕ
   pub step : ℕ
   pub random : ℕ
 
--- what a call leaves, its result, and the bytes that it hands out
-pub record Served : Type 0 where
-  pub state : State
-  pub ret : ℤ
-  pub payload : List ℕ
-
--- an answer that leaves all as it is
-abbrev pub replied : State → ℤ → List ℕ → Served
-replied s ret payload = record { state = s; ret = ret; payload = payload }
-
 -- a reply that every state has, which leaves all as it is
-abbrev pub always : State → Response → Served
-always s reply = replied s reply.ret reply.payload
+abbrev pub always : State → Response → Answer State
+always s reply = answer s reply.ret reply.payload
 
 -- what the files answer and become
-abbrev pub of_files : State → fs.Answer → Served
-of_files s a = record { state = record s { files = a.state }; ret = a.ret; payload = a.payload }
+abbrev pub of_files : State → Answer FileState → Answer State
+of_files s a = answer (record s { files = a.state }) a.ret a.payload
 
 -- what the threads that live answer and become
-abbrev pub of_crew : State → ℤ × Crew → Served
-of_crew s a = record { state = record s { crew = a.1 }; ret = a.0; payload = [] }
+abbrev pub of_crew : State → ℤ × Crew → Answer State
+of_crew s a = only (record s { crew = a.1 }) a.0
 
-abbrev pub counted : Served → Served
-counted r = record r { state = record r.state { served = r.state.served + 1 } }
+abbrev pub counted : Answer State → Answer State
+counted a = record a { state = record a.state { served = a.state.served + 1 } }
 
 abbrev pub request_arg : Request → ℕ → ℕ
 request_arg c i = slice_index c.args i
@@ -95,24 +85,24 @@ abbrev pub random_after : ℕ → ℕ → ℕ
 random_after zero x = x
 random_after (suc n) x = random_after n (next_random x)
 
-abbrev pub randomly : State → ℕ → Served
-randomly s n = record { state = record s { random = random_after n s.random }; ret = pos n; payload = randoms n s.random }
+abbrev pub randomly : State → ℕ → Answer State
+randomly s n = answer (record s { random = random_after n s.random }) (pos n) (randoms n s.random)
 
 -- ---- the calls
 
 -- ioctl(2): no open file is a terminal
-abbrev pub control : State → ℕ → Served
-control s fd = if is_open s.files fd then replied s ENOTTY [] else replied s EBADF []
+abbrev pub control : State → ℕ → Answer State
+control s fd = if is_open s.files fd then only s ENOTTY else only s EBADF
 
 -- readv(2) and writev(2) of no more vectors than are read
-abbrev pub unless_many : State → ℕ → Served → Served
-unless_many s count served = if nat_lt MOST_VECTORS count then replied s EINVAL [] else served
+abbrev pub unless_many : State → ℕ → Answer State → Answer State
+unless_many s count a = if nat_lt MOST_VECTORS count then only s EINVAL else a
 
 -- clock_gettime(2): 0 is CLOCK_REALTIME and 1 CLOCK_MONOTONIC
-abbrev pub clock : State → ℕ → Served
-clock s id = if nat_lt 1 id then replied s EINVAL [] else replied s (pos 0) (time_bytes (time_of s))
+abbrev pub clock : State → ℕ → Answer State
+clock s id = if nat_lt 1 id then only s EINVAL else answer s (pos 0) (time_bytes (time_of s))
 
-abbrev pub answered : Syscall → State → Request → Served
+abbrev pub answered : Syscall → State → Request → Answer State
 answered Getcwd s c = always s (directory (request_arg c 1))
 answered Dup s c = of_files s (dup_of s.files (request_arg c 0))
 answered Dup3 s c = of_files s (dup3_of s.files (request_arg c 0) (request_arg c 1) (request_arg c 2))
@@ -138,31 +128,19 @@ answered Getgid s c = always s user
 answered Getegid s c = always s user
 answered Getrandom s c = randomly s (min (request_arg c 1) MOST_BYTES)
 answered ClockGettime64 s c = clock s (request_arg c 0)
-answered _ s c = replied s ENOSYS []
+answered _ s c = only s ENOSYS
 
 -- a call on memory that isn't the guest's answers EFAULT before every other check
-abbrev pub unless_bad : State → Request → Served
-unless_bad s c = if c.bad then replied s EFAULT [] else answered (syscall_of c.nr) s c
+abbrev pub unless_bad : State → Request → Answer State
+unless_bad s c = if c.bad then only s EFAULT else answered (syscall_of c.nr) s c
 
 -- what a call answers, and what it leaves
-unfoldable pub serve : State → Request → Served
+unfoldable pub serve : State → Request → Answer State
 serve s c = counted (unless_bad s c)
 
 -- ---- from call to call
 
--- the state after a list of calls
-abbrev pub state_after : State → List Request → State
-state_after s [] = s
-state_after s (c ∷ cs) = state_after (serve s c).state cs
-
-abbrev pub reply_of : Served → Response
-reply_of r = record { ret = r.ret; payload = r.payload }
-
--- how the kernel goes on from a state; it serves no connection
-abbrev pub start_at : State → Start
-start_at s = record { replies = λ cs c. reply_of (serve (state_after s cs) c); console = λ cs. (state_after s cs).files.console; connections = λ cs. [] }
-
-abbrev pub named_inode : Named → fs.Inode
+abbrev pub named_inode : Named → Inode
 named_inode file = record { name = Some file.0; bytes = file.1 }
 
 -- what a script gives: the input, the files, the clock and the generator's first state
@@ -176,5 +154,6 @@ first_state setup = record {
   random = setup.seed;
 }
 
+-- how the kernel goes on from what a script gives; it serves no connection
 unfoldable pub start_of_script : Setup → Start
-start_of_script setup = start_at (first_state setup)
+start_of_script setup = start_at serve (λ (s : State). s.files.console) (λ (s : State). []) (first_state setup)

@@ -1,9 +1,10 @@
 // The kernel, with the log of the calls that it served.
 ghost use Rattle.std.specs.Prelude.{◌≡◌, ◌<◌, ◌++◌, [], ◌∷◌, true, length, IsTrue, IfOk};
+ghost use Rattle.nv_calls.specs.Answer.{state_after};
 ghost use Rattle.nv_calls.specs.Logs.{calls_of};
 ghost use Rattle.nv_script.specs.Scripts.{is_script};
 ghost use Rattle.nv_script.specs.Views.{setup_of};
-ghost use Rattle.nv_kernel.specs.Serving.{first_state, state_after};
+ghost use Rattle.nv_kernel.specs.Serving.{serve, first_state};
 
 use crate::answers::{Answers, Foretold, FromScript, KeepsAll};
 use crate::devices::Devices;
@@ -116,7 +117,7 @@ impl Kernel<Devices> {
     /// The files, as the calls served left them.
     pub fn files(&self) -> &FileSystem
         ensures disk { result.now ≡ self.now.answers.files }
-        ensures state { result.now.state ≡ (state_after (first_state self.now.setup) (calls_of self.now.log)).files }
+        ensures state { result.now.state ≡ (state_after serve (first_state self.now.setup) (calls_of self.now.log)).files }
     {
         &self.answers.files
     }

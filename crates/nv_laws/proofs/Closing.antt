@@ -6,8 +6,9 @@ use Rattle.std.proofs.lemmas.List.{get_or-set_other}
 use Rattle.nv_fs.specs.declared.open_file.OpenFile.{OpenFile}
 use Rattle.nv_fs.specs.declared.open_file.Target.{Target}
 use Rattle.nv_fs.specs.declared.open_file.Target.TheVariants.{File, Reader, Writer}
+use Rattle.nv_calls.specs.Answer.{Answer, only}
 use Rattle.nv_calls.specs.Errors.{EBADF, EINVAL}
-use Rattle.nv_fs.specs.States.{FileState, Answer, only, open_of, numbered, opens_to, is_kept, is_pipe, has_open, file_at}
+use Rattle.nv_fs.specs.States.{FileState, open_of, numbered, opens_to, is_kept, is_pipe, has_open, file_at}
 use Rattle.nv_fs.specs.Closes.{close_of, close_open, dup3_of, dup_onto, shared_at, with_descriptor}
 use Rattle.nv_laws.specs.Tables.{number_at, HeldBeside, OpenBeside}
 use Rattle.nv_laws.specs.Calls.{ChangesNothing, OthersKeep, LetsGo}
@@ -97,7 +98,7 @@ onto s from to o other e = lets_go s to (Some o.0) beside
     ]
 
 -- a call that closes a descriptor, where it isn't refused
-abbrev Closed : FileState → ℕ → Answer → Type 0
+abbrev Closed : FileState → ℕ → Answer FileState → Type 0
 Closed s fd a = ChangesNothing s a ⊎ LetsGo s a.state fd
 
 onto_another : (s : FileState) (from to : ℕ) → from ≢ to → (o : Option (ℕ × OpenFile)) → open_of s from ≡ o → Closed s to (dup_onto s o to)

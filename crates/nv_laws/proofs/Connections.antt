@@ -6,6 +6,7 @@ use Rattle.std.proofs.lemmas.Bool.Decides.{nat_tests}
 use Rattle.std.proofs.lemmas.List.Concat.{flat_map-append}
 use Rattle.nv_calls.specs.declared.numbers.Syscall.{Syscall}
 use Rattle.nv_calls.specs.declared.numbers.Syscall.TheVariants as call
+use Rattle.nv_calls.specs.Answer.{Answer, only, state_after}
 use Rattle.nv_calls.specs.Calls.{Request, Entry}
 use Rattle.nv_calls.specs.Limits.{MOST_VECTORS}
 use Rattle.nv_calls.specs.Logs.{calls_of, connections_of}
@@ -14,14 +15,14 @@ use Rattle.nv_script.specs.Scripts.{Setup, Incoming}
 use Rattle.nv_kernel.specs.Serving.{request_arg}
 use Rattle.nv_sockets.specs.declared.socket.Socket.{Socket}
 use Rattle.nv_sockets.specs.declared.socket.Socket.TheVariants.{Fresh, Bound, Listening, Connected}
-use Rattle.nv_sockets.specs.Sockets.{Link, Net, Answer, only, socket_at, on_socket, socket_of, is_size, port_in, is_used, bind_to, bind_socket, bind_of, listen_socket, listen_of, free_place, next_at, accept_next, accept_socket, are_flags, accept_flagged, accept_of, is_going, link_output, read_socket, with_output, write_link, write_socket, close_socket}
+use Rattle.nv_sockets.specs.Sockets.{Link, Net, socket_at, on_socket, socket_of, is_size, port_in, is_used, bind_to, bind_socket, bind_of, listen_socket, listen_of, free_place, next_at, accept_next, accept_socket, are_flags, accept_flagged, accept_of, is_going, link_output, read_socket, with_output, write_link, write_socket, close_socket}
 use Rattle.nv_sockets.specs.Serving.{State, answered, unless_bad, or_own, serve, link_written, link_from}
 use Rattle.nv_arrivals.specs.Arrivals.{Arrival, Input, InputEnd, ClientsEnd, Connect, Data, End, Time}
 use Rattle.nv_arrivals.specs.Doings.{Said, Sent, Printed, sayings}
 use Rattle.nv_arriving.specs.declared.timing.Until.{Until}
 use Rattle.nv_arriving.specs.Arrivals.{in_vain}
 use Rattle.nv_arriving.specs.Timing.{until_of}
-use Rattle.nv_arriving.specs.Arriving.{Standing, Stage, Reached, with_state, wait_of, taken, arrive, arrive_all, later as answered_later, or_own as or_served, serve_by, ready_for, answer_next, serve_next, first_stage, stage_after, start_of_arrivals}
+use Rattle.nv_arriving.specs.Arriving.{Standing, Stage, with_state, wait_of, taken, arrive, arrive_all, later as answered_later, or_own as or_served, serve_by, ready_for, answer_next, serve_next, first_stage, start_of_arrivals}
 use Rattle.nv_arriving.specs.Doings.{of_bytes, socket_by, accepted_as, accepted, written, sent, closed, said, doings_of, doings_from, doings}
 use Rattle.nv_arriving.specs.Kernel.{after}
 use Rattle.nv_sockets.proofs.Keeping.{no_link}
@@ -125,8 +126,8 @@ module _ (net : Net) (i : ℕ) (part : List ℕ) where
   outputs : Sends (Some (Connected i)) net later
   outputs = ⊎_elim inside outside (cases_lt i (length net.links))
 
-abbrev Says : Option Socket → Net → Answer → Type 0
-Says o net a = Sends o net a.net
+abbrev Says : Option Socket → Net → Answer Net → Type 0
+Says o net a = Sends o net a.state
 
 link_cases : (net : Net) (i : ℕ) (bytes : List ℕ) → Says (Some (Connected i)) net (write_link net i bytes)
 link_cases net i bytes =
@@ -138,12 +139,12 @@ link_cases net i bytes =
 -- ---- the calls: all others leave what was written to the links
 
 -- of an answer, where there is one
-abbrev Of : Option Socket → Net → Option Answer → Type 0
+abbrev Of : Option Socket → Net → Option (Answer Net) → Type 0
 Of o net None = Unit {0}
-Of o net (Some a) = Sends o net a.net
+Of o net (Some a) = Sends o net a.state
 
-abbrev Leaves : Net → Answer → Type 0
-Leaves net a = a.net.links ≡ net.links
+abbrev Leaves : Net → Answer Net → Type 0
+Leaves net a = a.state.links ≡ net.links
 
 to_cases : (net : Net) (fd : ℕ) (port : Option ℕ) → Leaves net (bind_to net fd port)
 to_cases net fd None = refl
@@ -191,8 +192,8 @@ unfolding accept_of
 accept_leaves net fd flags = accept_cases net fd flags (socket_at net fd)
 
 -- a read and a close change what isn't read of a link, and nothing that was written to one
-abbrev Keeps : Net → Answer → Type 0
-Keeps net a = (j : ℕ) → link_output a.net j ≡ link_output net j
+abbrev Keeps : Net → Answer Net → Type 0
+Keeps net a = (j : ℕ) → link_output a.state j ≡ link_output net j
 
 read_keeps : (net : Net) (n : ℕ) (s : Socket) → Keeps net (read_socket net n s)
 read_keeps net n Fresh j = refl
@@ -202,7 +203,7 @@ read_keeps net n (Connected i) j = came net.links i j _
 
 read_cases : (net : Net) (n : ℕ) (o p : Option Socket) → Of o net (option_map (read_socket net n) p)
 read_cases net n o None = tt
-read_cases net n o (Some s) = same_outputs o net (read_socket net n s).net (read_keeps net n s)
+read_cases net n o (Some s) = same_outputs o net (read_socket net n s).state (read_keeps net n s)
 
 close_keeps : (net : Net) (fd : ℕ) (s : Socket) → Keeps net (close_socket net fd s)
 close_keeps net fd Fresh j = refl
@@ -212,7 +213,7 @@ close_keeps net fd (Connected i) j = came net.links i j None
 
 close_cases : (net : Net) (fd : ℕ) (o p : Option Socket) → Of o net (option_map (close_socket net fd) p)
 close_cases net fd o None = tt
-close_cases net fd o (Some s) = same_outputs o net (close_socket net fd s).net (close_keeps net fd s)
+close_cases net fd o (Some s) = same_outputs o net (close_socket net fd s).state (close_keeps net fd s)
 
 write_cases : (net : Net) (bytes : List ℕ) (o : Option Socket) → Of o net (option_map (write_socket net bytes) o)
 write_cases net bytes None = tt
@@ -225,11 +226,11 @@ abbrev asked_of : Net → Request → Option Socket
 asked_of net c = socket_at net (request_arg c 0)
 
 answers : (k : Syscall) (net : Net) (c : Request) → Of (asked_of net c) net (answered k net c)
-answers call.Socket net c = same_links (asked_of net c) net (socket_of net (request_arg c 0) (request_arg c 1) (request_arg c 2)).net (made_links net (request_arg c 0) (request_arg c 1) (request_arg c 2))
-answers call.Bind net c = same_links (asked_of net c) net (bind_of net (request_arg c 0) (request_arg c 2) c.payload).net (bind_leaves net (request_arg c 0) (request_arg c 2) c.payload)
-answers call.Listen net c = same_links (asked_of net c) net (listen_of net (request_arg c 0)).net (listen_leaves net (request_arg c 0))
-answers call.Accept net c = same_links (asked_of net c) net (accept_of net (request_arg c 0) 0).net (accept_leaves net (request_arg c 0) 0)
-answers call.Accept4 net c = same_links (asked_of net c) net (accept_of net (request_arg c 0) (request_arg c 3)).net (accept_leaves net (request_arg c 0) (request_arg c 3))
+answers call.Socket net c = same_links (asked_of net c) net (socket_of net (request_arg c 0) (request_arg c 1) (request_arg c 2)).state (made_links net (request_arg c 0) (request_arg c 1) (request_arg c 2))
+answers call.Bind net c = same_links (asked_of net c) net (bind_of net (request_arg c 0) (request_arg c 2) c.payload).state (bind_leaves net (request_arg c 0) (request_arg c 2) c.payload)
+answers call.Listen net c = same_links (asked_of net c) net (listen_of net (request_arg c 0)).state (listen_leaves net (request_arg c 0))
+answers call.Accept net c = same_links (asked_of net c) net (accept_of net (request_arg c 0) 0).state (accept_leaves net (request_arg c 0) 0)
+answers call.Accept4 net c = same_links (asked_of net c) net (accept_of net (request_arg c 0) (request_arg c 3)).state (accept_leaves net (request_arg c 0) (request_arg c 3))
 answers call.Close net c = close_cases net (request_arg c 0) (asked_of net c) (asked_of net c)
 answers call.Read net c = read_cases net _ (asked_of net c) (asked_of net c)
 answers call.Readv net c = by_test (Of (asked_of net c) net) (nat_lt MOST_VECTORS (request_arg c 2)) None _ tt (read_cases net _ (asked_of net c) (asked_of net c))
@@ -237,7 +238,7 @@ answers call.Write net c = write_cases net c.payload (asked_of net c)
 answers call.Writev net c = by_test (Of (asked_of net c) net) (nat_lt MOST_VECTORS (request_arg c 2)) None _ tt (write_cases net c.payload (asked_of net c))
 answers _ net c = tt
 
-net_of : (o : Option Socket) (net : Net) (ret : ℤ) (payload : List ℕ) (found : Option Answer) → Of o net found → Sends o net (or_own net ret payload found).net
+net_of : (o : Option Socket) (net : Net) (ret : ℤ) (payload : List ℕ) (found : Option (Answer Net)) → Of o net found → Sends o net (or_own net ret payload found).state
 net_of o net ret payload None h = same_links o net net refl
 net_of o net ret payload (Some a) h = h
 
@@ -247,13 +248,13 @@ sends s c =
     net_of (asked_of s.net c) s.net _ _ (unless_bad s.net c)
     (by_test (Of (asked_of s.net c) s.net) c.bad None (answered (syscall_of c.nr) s.net c) tt (answers (syscall_of c.nr) s.net c))
 
-sends_or : (s : Standing) (c : Request) (o : Option Reached) → IfSome o (Still s) → Sends (asked_of s.state.net c) s.state.net (or_served s c o).here.state.net
+sends_or : (s : Standing) (c : Request) (o : Option (Answer Standing)) → IfSome o (Still s) → Sends (asked_of s.state.net c) s.state.net (or_served s c o).state.state.net
 sends_or s c None h =
     let still = note_state (with_state s (serve s.state c).state) c (serve s.state c).ret in
     subst (λ (t : State). Sends (asked_of s.state.net c) s.state.net t.net) (sym still) (sends s.state c)
-sends_or s c (Some r) h = same_links (asked_of s.state.net c) s.state.net r.here.state.net (ap (λ (n : Net). n.links) h.net)
+sends_or s c (Some r) h = same_links (asked_of s.state.net c) s.state.net r.state.state.net (ap (λ (n : Net). n.links) h.net)
 
-sends_by : (s : Standing) (c : Request) (u : Until) → Sends (asked_of s.state.net c) s.state.net (serve_by s c u).here.state.net
+sends_by : (s : Standing) (c : Request) (u : Until) → Sends (asked_of s.state.net c) s.state.net (serve_by s c u).state.state.net
 unfolding serve_by
 sends_by s c u = sends_or s c (answered_later s c u) (later_still s c u)
 
@@ -316,24 +317,24 @@ said_text j before c ret now =
 abbrev output_at : Stage → ℕ → List ℕ
 output_at g j = link_output g.here.state.net j
 
-next_output : (g : Stage) (c : Request) (j : ℕ) → output_at (serve_next g c) j ≡ output_at g j ++ sent_text j (sayings (doings_of g c))
+next_output : (g : Stage) (c : Request) (j : ℕ) → output_at (serve_next g c).state j ≡ output_at g j ++ sent_text j (sayings (doings_of g c))
 next_output g c j =
     let net : Net = (ready_for g c).state.net in
-    let now : Net = (answer_next g c).here.state.net in
+    let now : Net = (answer_next g c).state.state.net in
     let text : List ℕ = sent_text j (sent (asked_of net c) (after (written net (asked_of net c)) (written now (asked_of net c)))) in
     let met : Standing = arrive_all g.here (take (taken g c) g.rest) in
     let still : link_output net j ≡ output_at g j = ap (λ (t : State). link_output t.net j) (vain_state (in_vain (wait_of g.here c) g.rest) met) ∙ outputs_still g.here (take (taken g c) g.rest) j in
     sends_by (ready_for g c) c (until_of g.here c) j
     ∙ (ap (λ z. z ++ text) still
-    ∙ ap (λ z. output_at g j ++ z) (sym (ap (sent_text j) (sayings_of g c) ∙ said_text j (ready_for g c).state c (answer_next g c).ret (answer_next g c).here.state)))
+    ∙ ap (λ z. output_at g j ++ z) (sym (ap (sent_text j) (sayings_of g c) ∙ said_text j (ready_for g c).state c (answer_next g c).ret (answer_next g c).state.state)))
 
-from_output : (g : Stage) (cs : List Request) (j : ℕ) → output_at (stage_after g cs) j ≡ output_at g j ++ sent_text j (sayings (doings_from g cs))
+from_output : (g : Stage) (cs : List Request) (j : ℕ) → output_at (state_after serve_next g cs) j ≡ output_at g j ++ sent_text j (sayings (doings_from g cs))
 from_output g [] j = sym (append-nil (output_at g j))
 from_output g (c ∷ cs) j =
-    from_output (serve_next g c) cs j
-    ∙ (ap (λ z. z ++ sent_text j (sayings (doings_from (serve_next g c) cs))) (next_output g c j)
-    ∙ (append_assoc (output_at g j) (sent_text j (sayings (doings_of g c))) (sent_text j (sayings (doings_from (serve_next g c) cs)))
-    ∙ ap (λ z. output_at g j ++ z) (sym (ap (sent_text j) (sayings_both (doings_of g c) (doings_from (serve_next g c) cs)) ∙ both j (sayings (doings_of g c)) (sayings (doings_from (serve_next g c) cs))))))
+    from_output (serve_next g c).state cs j
+    ∙ (ap (λ z. z ++ sent_text j (sayings (doings_from (serve_next g c).state cs))) (next_output g c j)
+    ∙ (append_assoc (output_at g j) (sent_text j (sayings (doings_of g c))) (sent_text j (sayings (doings_from (serve_next g c).state cs)))
+    ∙ ap (λ z. output_at g j ++ z) (sym (ap (sent_text j) (sayings_both (doings_of g c) (doings_from (serve_next g c).state cs)) ∙ both j (sayings (doings_of g c)) (sayings (doings_from (serve_next g c).state cs))))))
 
 first_none : (xs : List Incoming) (j : ℕ) → (slice_index_or (map link_from xs) j no_link).output ≡ []
 first_none [] j = refl
@@ -349,5 +350,5 @@ pub connections_are_said : (setup : Setup) (arrivals : List Arrival) (log : List
 unfolding doings start_of_arrivals
 connections_are_said setup arrivals log j =
     let g : Stage = first_stage setup arrivals in
-    sym (written_is (stage_after g (calls_of log)).here.state.net.links j
+    sym (written_is (state_after serve_next g (calls_of log)).here.state.net.links j
     ∙ (from_output g (calls_of log) j ∙ ap (λ z. z ++ sent_text j (sayings (doings_from g (calls_of log)))) (first_none setup.connections j)))

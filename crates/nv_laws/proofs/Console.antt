@@ -4,6 +4,7 @@ use Rattle.std.specs.Prelude.{IfSome}
 use Rattle.std.proofs.lemmas.List.Concat.{flat_map-append}
 use Rattle.nv_calls.specs.declared.numbers.Syscall.{Syscall}
 use Rattle.nv_calls.specs.declared.numbers.Syscall.TheVariants as call
+use Rattle.nv_calls.specs.Answer.{Answer, state_after}
 use Rattle.nv_calls.specs.Calls.{Request, Entry}
 use Rattle.nv_calls.specs.Logs.{calls_of, output_of}
 use Rattle.nv_calls.specs.Numbers.{syscall_of}
@@ -20,7 +21,7 @@ use Rattle.nv_arrivals.specs.Doings.{Said, Sent, Printed, Takes, Says, sayings}
 use Rattle.nv_arriving.specs.declared.timing.Until.{Until}
 use Rattle.nv_arriving.specs.Arrivals.{in_vain}
 use Rattle.nv_arriving.specs.Timing.{until_of}
-use Rattle.nv_arriving.specs.Arriving.{Standing, Stage, Reached, with_state, wait_of, taken, arrive, arrive_all, later, or_own, serve_by, ready_for, answer_next, serve_next, first_stage, stage_after, start_of_arrivals}
+use Rattle.nv_arriving.specs.Arriving.{Standing, Stage, with_state, wait_of, taken, arrive, arrive_all, later, or_own, serve_by, ready_for, answer_next, serve_next, first_stage, start_of_arrivals}
 use Rattle.nv_arriving.specs.Doings.{of_bytes, socket_by, accepted_as, accepted, written, sent, closed, said, doings_of, doings_from, doings}
 use Rattle.nv_arriving.specs.Kernel.{after}
 use Rattle.nv_sockets.proofs.Printing.{own_prints, bad_quiet}
@@ -56,13 +57,13 @@ prints s c = by c.bad refl
     by true e = subst (Grows s.own.files.console) (sym (bad_quiet s.own c e)) (grows-same s.own.files.console)
     by false e = grows_by s.own.files.console _ _ (own_prints s.own c e)
 
-prints_or : (s : Standing) (c : Request) (o : Option Reached) → IfSome o (Still s) → Grows s.state.own.files.console (or_own s c o).here.state.own.files.console
+prints_or : (s : Standing) (c : Request) (o : Option (Answer Standing)) → IfSome o (Still s) → Grows s.state.own.files.console (or_own s c o).state.state.own.files.console
 prints_or s c None h =
     let still = note_state (with_state s (serve s.state c).state) c (serve s.state c).ret in
     subst (λ (t : State). Grows s.state.own.files.console t.own.files.console) (sym still) (prints s.state c)
 prints_or s c (Some r) h = subst (λ (f : FileState). Grows s.state.own.files.console f.console) (sym h.files) (grows-same s.state.own.files.console)
 
-prints_by : (s : Standing) (c : Request) (u : Until) → Grows s.state.own.files.console (serve_by s c u).here.state.own.files.console
+prints_by : (s : Standing) (c : Request) (u : Until) → Grows s.state.own.files.console (serve_by s c u).state.state.own.files.console
 unfolding serve_by
 prints_by s c u = prints_or s c (later s c u) (later_still s c u)
 
@@ -136,10 +137,10 @@ said_plain before c ret now =
     ∙ (ap (λ z. z ++ plain_text last) (closed_plain open_socket (socket_at now.net (request_arg c 0)))
     ∙ printed_plain (after before.own.files.console now.own.files.console))))))
 
-pub sayings_of : (g : Stage) (c : Request) → sayings (doings_of g c) ≡ said (ready_for g c).state c (answer_next g c).ret (answer_next g c).here.state
+pub sayings_of : (g : Stage) (c : Request) → sayings (doings_of g c) ≡ said (ready_for g c).state c (answer_next g c).ret (answer_next g c).state.state
 sayings_of g c =
     let front : List Arrival = take (taken g c) g.rest in
-    let says : List Said = said (ready_for g c).state c (answer_next g c).ret (answer_next g c).here.state in
+    let says : List Said = said (ready_for g c).state c (answer_next g c).ret (answer_next g c).state.state in
     sayings_both (map Takes front) (map Says says) ∙ (λ i. sayings_none front i ++ sayings_all says i)
 
 -- ---- a log
@@ -147,22 +148,22 @@ sayings_of g c =
 abbrev console_at : Stage → List ℕ
 console_at g = g.here.state.own.files.console
 
-next_console : (g : Stage) (c : Request) → console_at (serve_next g c) ≡ console_at g ++ plain_text (sayings (doings_of g c))
+next_console : (g : Stage) (c : Request) → console_at (serve_next g c).state ≡ console_at g ++ plain_text (sayings (doings_of g c))
 next_console g c =
     let before : List ℕ = (ready_for g c).state.own.files.console in
     let met : Standing = arrive_all g.here (take (taken g c) g.rest) in
     let still : before ≡ console_at g = ap (λ (t : State). t.own.files.console) (vain_state (in_vain (wait_of g.here c) g.rest) met) ∙ console_still g.here (take (taken g c) g.rest) in
     prints_by (ready_for g c) c (until_of g.here c)
-    ∙ (ap (λ z. z ++ after before (console_at (serve_next g c))) still
-    ∙ ap (λ z. console_at g ++ z) (sym (ap plain_text (sayings_of g c) ∙ said_plain (ready_for g c).state c (answer_next g c).ret (answer_next g c).here.state)))
+    ∙ (ap (λ z. z ++ after before (console_at (serve_next g c).state)) still
+    ∙ ap (λ z. console_at g ++ z) (sym (ap plain_text (sayings_of g c) ∙ said_plain (ready_for g c).state c (answer_next g c).ret (answer_next g c).state.state)))
 
-from_console : (g : Stage) (cs : List Request) → console_at (stage_after g cs) ≡ console_at g ++ plain_text (sayings (doings_from g cs))
+from_console : (g : Stage) (cs : List Request) → console_at (state_after serve_next g cs) ≡ console_at g ++ plain_text (sayings (doings_from g cs))
 from_console g [] = sym (append-nil (console_at g))
 from_console g (c ∷ cs) =
-    from_console (serve_next g c) cs
-    ∙ (ap (λ z. z ++ plain_text (sayings (doings_from (serve_next g c) cs))) (next_console g c)
-    ∙ (append_assoc (console_at g) (plain_text (sayings (doings_of g c))) (plain_text (sayings (doings_from (serve_next g c) cs)))
-    ∙ ap (λ z. console_at g ++ z) (sym (ap plain_text (sayings_both (doings_of g c) (doings_from (serve_next g c) cs)) ∙ plain-both (sayings (doings_of g c)) (sayings (doings_from (serve_next g c) cs))))))
+    from_console (serve_next g c).state cs
+    ∙ (ap (λ z. z ++ plain_text (sayings (doings_from (serve_next g c).state cs))) (next_console g c)
+    ∙ (append_assoc (console_at g) (plain_text (sayings (doings_of g c))) (plain_text (sayings (doings_from (serve_next g c).state cs)))
+    ∙ ap (λ z. console_at g ++ z) (sym (ap plain_text (sayings_both (doings_of g c) (doings_from (serve_next g c).state cs)) ∙ plain-both (sayings (doings_of g c)) (sayings (doings_from (serve_next g c).state cs))))))
 
 pub console_is_said : (setup : Setup) (arrivals : List Arrival) (log : List Entry) → plain_text (sayings (doings setup arrivals log)) ≡ output_of (start_of_arrivals setup arrivals) log
 unfolding doings start_of_arrivals

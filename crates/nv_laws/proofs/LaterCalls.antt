@@ -3,6 +3,7 @@ use Rattle.std.proofs.Common.{◌≡◌, ap, refl, Bool, true, false, not, ◌&&
 use Rattle.std.specs.Prelude.{IfSome, if◌then◌else◌}
 use Rattle.nv_calls.specs.declared.numbers.Syscall.{Syscall}
 use Rattle.nv_calls.specs.declared.numbers.Syscall.TheVariants as call
+use Rattle.nv_calls.specs.Answer.{Answer}
 use Rattle.nv_calls.specs.Calls.{Request}
 use Rattle.nv_calls.specs.Errors.{EAGAIN}
 use Rattle.nv_calls.specs.Numbers.{syscall_of}
@@ -11,12 +12,12 @@ use Rattle.nv_sockets.specs.Serving.{State}
 use Rattle.nv_arriving.specs.declared.timing.Until.{Until}
 use Rattle.nv_arriving.specs.declared.timing.Until.TheVariants as until
 use Rattle.nv_arriving.specs.Timing.{slept}
-use Rattle.nv_arriving.specs.Arriving.{Standing, Reached, reached_by, would_wait, later_as, later}
+use Rattle.nv_arriving.specs.Arriving.{Standing, reached_by, would_wait, later_as, later}
 use Rattle.nv_arriving.proofs.LaterLaws.{control_state}
 
-pub record Still (s : Standing) (r : Reached) : Type 0 where
-  pub files : r.here.state.own.files ≡ s.state.own.files
-  pub net : r.here.state.net ≡ s.state.net
+pub record Still (s : Standing) (r : Answer Standing) : Type 0 where
+  pub files : r.state.state.own.files ≡ s.state.own.files
+  pub net : r.state.state.net ≡ s.state.net
 
 slept_still : (s : Standing) (u : Until) → Still s (reached_by (slept s u))
 slept_still s until.Never = record { files = refl; net = refl }

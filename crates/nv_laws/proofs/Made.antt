@@ -7,8 +7,9 @@ use Rattle.std.proofs.lemmas.Bool.{cases_eq, eq-eqb}
 use Rattle.std.proofs.lemmas.List.{get_or-set_same, get_or-set_other}
 use Rattle.nv_fs.specs.declared.open_file.OpenFile.{OpenFile}
 use Rattle.nv_fs.specs.declared.open_file.Target.TheVariants.{File, Reader, Writer}
+use Rattle.nv_calls.specs.Answer.{Answer, only}
 use Rattle.nv_calls.specs.Errors.{ENOENT, EBADF, EEXIST, ENOTDIR, EINVAL, EMFILE, ENOSPC, ENAMETOOLONG}
-use Rattle.nv_fs.specs.States.{one_way, FileState, Inode, Answer, only, open_of, numbered, opens_to, is_numbered, is_shared, is_kept, file_at, free_open, install}
+use Rattle.nv_fs.specs.States.{one_way, FileState, Inode, open_of, numbered, opens_to, is_numbered, is_shared, is_kept, file_at, free_open, install}
 use Rattle.nv_fs.specs.Closes.{dup_of, dup_open, share, free_descriptor}
 use Rattle.nv_fs.specs.Ends.{pipe_of, pipe_from, pipe_on, free_pipe, free_above, with_empty}
 use Rattle.nv_fs.specs.Names.{Resolved, Refused, Named, resolved, name_of, name_in, component_of, file_of, is_open_at, is_cwd, is_absolute}
@@ -143,7 +144,7 @@ made_ready s name h j kept = (ap (λ (f : Inode). f.name) same, inr same)
     same = with_or_other s.files (free_file s) (record { name = Some name; bytes = [] }) (free_file_near s) j (record { name = None; bytes = [] })
         (λ is. let clash : true ≡ false = sym kept ∙ ap (is_kept s) is ∙ file_is_free s h in cc)
 
-abbrev Opened : FileState → Answer → Type 0
+abbrev Opened : FileState → Answer FileState → Type 0
 Opened s a = ChangesNothing s a ⊎ HasOpened s a
 
 makes_file : (s : FileState) (fd : ℕ) (name : List ℕ) (flags : ℕ) → AreSoundTables s → fd < length s.descriptors → number_at s fd ≡ None → Opened s (create s fd name flags)
@@ -227,7 +228,7 @@ has_piped s reading writing h l free above l' free' =
       files = refl;
     }
 
-abbrev Piped : FileState → Answer → Type 0
+abbrev Piped : FileState → Answer FileState → Type 0
 Piped s a = ChangesNothing s a ⊎ HasPiped s a
 
 pub pipes : (s : FileState) (flags : ℕ) → AreSoundTables s → ChangesNothing s (pipe_of s flags) ⊎ HasPiped s (pipe_of s flags)

@@ -6,8 +6,9 @@ use Rattle.std.proofs.lemmas.List.{get_or-set_other}
 use Rattle.nv_fs.specs.declared.open_file.OpenFile.{OpenFile}
 use Rattle.nv_fs.specs.declared.open_file.Target.{Target}
 use Rattle.nv_fs.specs.declared.open_file.Target.TheVariants.{Input, Console, File, Reader, Writer}
+use Rattle.nv_calls.specs.Answer.{Answer, only}
 use Rattle.nv_calls.specs.Errors.{EBADF, EINVAL, ENOSPC}
-use Rattle.nv_fs.specs.States.{one_way, FileState, Inode, Answer, only, open_of, file_at, free_open, install, with_at, moved_to}
+use Rattle.nv_fs.specs.States.{one_way, FileState, Inode, open_of, file_at, free_open, install, with_at, moved_to}
 use Rattle.nv_fs.specs.Starts.{first_state, first_descriptors, first_opens}
 use Rattle.nv_fs.specs.Closes.{close_of, close_open, dup_of, dup_open, dup3_of, dup_onto, share, shared_at, free_descriptor, with_descriptor}
 use Rattle.nv_fs.specs.Ends.{pipe_of, pipe_from, pipe_on, free_pipe, free_above, with_empty, with_ends}
@@ -111,7 +112,7 @@ moves s fd o offset h e =
 kept : (s : FileState) (i : ℕ) (f : Inode) → AreSoundTables s → AreSoundTables (record s { files = set s.files i f })
 kept s i f h = grown s (set s.files i f) s.pipes s.input s.console h (omega (arith, length-set s.files i f)) (omega arith)
 
-abbrev Sound : Answer → Type 0
+abbrev Sound : Answer FileState → Type 0
 Sound a = AreSoundTables a.state
 
 -- the first tables

@@ -2,6 +2,7 @@
 use Rattle.std.proofs.Common.{Bool, true, false, cond, List, [], ◌∷◌}
 use Rattle.nv_calls.specs.declared.numbers.Syscall.{Syscall}
 use Rattle.nv_calls.specs.declared.numbers.Syscall.TheVariants as call
+use Rattle.nv_calls.specs.Answer.{state_after, Answer}
 use Rattle.nv_calls.specs.Calls.{Request}
 use Rattle.nv_calls.specs.Numbers.{syscall_of}
 use Rattle.nv_laws.specs.Tables.{AreSoundTables}
@@ -9,9 +10,9 @@ use Rattle.nv_laws.proofs.Sound.{first_is_sound, opened_is_sound, unlinked_is_so
 use Rattle.nv_script.specs.Scripts.{Setup}
 use Rattle.nv_kernel.specs.Serving as kernel
 use Rattle.nv_kernel.specs.Serving.{request_arg}
-use Rattle.nv_sockets.specs.Serving.{State, serve, state_after, first_state}
+use Rattle.nv_sockets.specs.Serving.{State, serve, first_state}
 
-of_either : (b : Bool) (x y : kernel.Served) → AreSoundTables x.state.files → AreSoundTables y.state.files → AreSoundTables (cond {A = kernel.Served} b x y).state.files
+of_either : (b : Bool) (x y : Answer kernel.State) → AreSoundTables x.state.files → AreSoundTables y.state.files → AreSoundTables (cond {A = Answer kernel.State} b x y).state.files
 of_either true x y h g = h
 of_either false x y h g = g
 
@@ -35,9 +36,9 @@ step : (s : State) (c : Request) → AreSoundTables s.own.files → AreSoundTabl
 unfolding serve kernel.serve
 step s c h = of_either c.bad _ _ h (kept (syscall_of c.nr) s.own c h)
 
-after : (s : State) (cs : List Request) → AreSoundTables s.own.files → AreSoundTables (state_after s cs).own.files
+after : (s : State) (cs : List Request) → AreSoundTables s.own.files → AreSoundTables (state_after serve s cs).own.files
 after s [] h = h
 after s (c ∷ cs) h = after (serve s c).state cs (step s c h)
 
-pub sound_after : (setup : Setup) (cs : List Request) → AreSoundTables (state_after (first_state setup) cs).own.files
+pub sound_after : (setup : Setup) (cs : List Request) → AreSoundTables (state_after serve (first_state setup) cs).own.files
 sound_after setup cs = after (first_state setup) cs (first_is_sound _ _ _)

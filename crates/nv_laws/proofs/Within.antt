@@ -6,8 +6,9 @@ use Rattle.std.proofs.lemmas.List.{get_or-set_other}
 use Rattle.nv_fs.specs.declared.open_file.OpenFile.{OpenFile}
 use Rattle.nv_fs.specs.declared.open_file.Target.{Target}
 use Rattle.nv_fs.specs.declared.open_file.Target.TheVariants.{File, Reader, Writer}
+use Rattle.nv_calls.specs.Answer.{Answer, only}
 use Rattle.nv_calls.specs.Errors.{EINVAL}
-use Rattle.nv_fs.specs.States.{FileState, Inode, Answer, only, open_of, opens_to, is_target, file_at, moved_to}
+use Rattle.nv_fs.specs.States.{FileState, Inode, open_of, opens_to, is_target, file_at, moved_to}
 use Rattle.nv_fs.specs.Names.{Resolved, Refused, Named, resolved, file_of}
 use Rattle.nv_fs.specs.Opened.{unlink_at_of, unlink_resolved, unlink_file, unlinked}
 use Rattle.nv_fs.specs.Seeks.{seek_of}
@@ -117,4 +118,4 @@ unlink_takes s dir path flags = by (resolved s dir path)
 
     by : (r : Resolved) → TakesAName s (unlink_resolved s r flags).state
     by (Refused error) = nothing_taken s
-    by (Named name) = by_test (λ (a : Answer). TakesAName s a.state) (flags == 0) (unlink_file s (file_of s name)) (only s EINVAL) (gone (file_of s name)) (nothing_taken s)
+    by (Named name) = by_test (λ (a : Answer FileState). TakesAName s a.state) (flags == 0) (unlink_file s (file_of s name)) (only s EINVAL) (gone (file_of s name)) (nothing_taken s)

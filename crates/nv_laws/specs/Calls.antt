@@ -1,7 +1,8 @@
 -- What the calls make, keep and free.
 use Rattle.std.specs.Prelude.{◌≡◌, ◌≢◌, ◌⊎◌, ◌↔◌, ℕ, ℤ, pos, negsuc, Bool, true, false, [], Some, None, is_some, IsTrue, slice_get}
 use Rattle.nv_fs.specs.declared.open_file.Target.TheVariants.{File, Reader, Writer}
-use Rattle.nv_fs.specs.States.{FileState, Answer, open_of, opens_to, is_shared, is_kept, is_pipe, file_at}
+use Rattle.nv_calls.specs.Answer.{Answer}
+use Rattle.nv_fs.specs.States.{FileState, open_of, opens_to, is_shared, is_kept, is_pipe, file_at}
 use Rattle.nv_fs.specs.Fetched.{pipe_at}
 use Rattle.nv_laws.specs.Tables.{number_at, HeldBeside, OpenBeside}
 
@@ -11,7 +12,7 @@ is_error (pos n) = false
 is_error (negsuc n) = true
 
 -- the call is refused, and changes nothing
-pub record ChangesNothing (before : FileState) (answer : Answer) : Type 0 where
+pub record ChangesNothing (before : FileState) (answer : Answer FileState) : Type 0 where
   pub same : answer.state ≡ before
   pub error : IsTrue (is_error answer.ret)
 
@@ -33,7 +34,7 @@ FileKeeps before after fd i =
     ((file_at after i).name ≡ (file_at before i).name) × (IsTrue (opens_to (File i) (open_of after fd)) ⊎ (file_at after i ≡ file_at before i))
 
 -- openat(2) made a descriptor and an open file; where it made a file too, that file's number was free
-pub record HasOpened (before : FileState) (answer : Answer) : Type 0 where
+pub record HasOpened (before : FileState) (answer : Answer FileState) : Type 0 where
   pub fd : ℕ
   pub ret : answer.ret ≡ pos fd
   pub new : TakesNew before answer.state fd
@@ -41,7 +42,7 @@ pub record HasOpened (before : FileState) (answer : Answer) : Type 0 where
   pub pipes : answer.state.pipes ≡ before.pipes
 
 -- dup(2) made a descriptor, which has the open file of another
-pub record HasDoubled (before : FileState) (from : ℕ) (answer : Answer) : Type 0 where
+pub record HasDoubled (before : FileState) (from : ℕ) (answer : Answer FileState) : Type 0 where
   pub fd : ℕ
   pub ret : answer.ret ≡ pos fd
   pub free : number_at before fd ≡ None
@@ -51,7 +52,7 @@ pub record HasDoubled (before : FileState) (from : ℕ) (answer : Answer) : Type
   pub pipes : answer.state.pipes ≡ before.pipes
 
 -- pipe(2) made a pipe whose number was free, and two descriptors with open files, one and then the other
-pub record HasPiped (before : FileState) (answer : Answer) : Type 0 where
+pub record HasPiped (before : FileState) (answer : Answer FileState) : Type 0 where
   pub pipe : ℕ
   pub unused : is_pipe before pipe ≡ false
   pub empty : pipe_at answer.state pipe ≡ []

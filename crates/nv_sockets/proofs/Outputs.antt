@@ -7,7 +7,8 @@ use Rattle.std.proofs.lemmas.List.{get_or_past}
 use Rattle.nv_fs.proofs.Cases.{by_test}
 use Rattle.nv_sockets.specs.declared.socket.Socket.{Socket}
 use Rattle.nv_sockets.specs.declared.socket.Socket.TheVariants.{Fresh, Connected}
-use Rattle.nv_sockets.specs.Sockets.{Inbox, Link, Net, Answer, only, socket_at, free_place, socket_opened, is_tcp, made_at, socket_of, is_going, close_socket}
+use Rattle.nv_calls.specs.Answer.{Answer, only}
+use Rattle.nv_sockets.specs.Sockets.{Inbox, Link, Net, socket_at, free_place, socket_opened, is_tcp, made_at, socket_of, is_going, close_socket}
 use Rattle.nv_sockets.specs.declared.did.Did.TheVariants.{Nothing, Accepted}
 use Rattle.nv_sockets.specs.Did.{at_open, accepted, accepted_by}
 use Rattle.nv_sockets.proofs.Keeping.{no_link}
@@ -41,13 +42,13 @@ socket_far net fd x h = by (nat_lt fd 64) refl h
     by true e g = cc
     by false e g = grind (arith, nat_tests)
 
-made_cases : (net : Net) (place : Option ℕ) → (made_at net place).net.links ≡ net.links
+made_cases : (net : Net) (place : Option ℕ) → (made_at net place).state.links ≡ net.links
 made_cases net None = refl
 made_cases net (Some place) = refl
 
-pub made_links : (net : Net) (domain kind protocol : ℕ) → (socket_of net domain kind protocol).net.links ≡ net.links
+pub made_links : (net : Net) (domain kind protocol : ℕ) → (socket_of net domain kind protocol).state.links ≡ net.links
 unfolding socket_of
-made_links net domain kind protocol = by_test (λ (a : Answer). a.net.links ≡ net.links) (is_tcp domain kind protocol) (made_at net (free_place net))
+made_links net domain kind protocol = by_test (λ (a : Answer Net). a.state.links ≡ net.links) (is_tcp domain kind protocol) (made_at net (free_place net))
     (only net _) (made_cases net (free_place net)) refl
 
 placed : (xs : List (Option Socket)) (place i : ℕ) (x : Socket) → is_some (slice_index_or xs i None) ≡ true
@@ -61,7 +62,7 @@ placed (y ∷ ys) (suc place) (suc i) x h = placed ys place i x h
 abbrev is_open_in : Net → ℕ → Bool
 is_open_in net fd = is_some (socket_at net fd)
 
-opened_stays : (net : Net) (fd place : ℕ) → is_open_in net fd ≡ true → is_open_in (socket_opened net place Fresh).net fd ≡ true
+opened_stays : (net : Net) (fd place : ℕ) → is_open_in net fd ≡ true → is_open_in (socket_opened net place Fresh).state fd ≡ true
 unfolding socket_at
 opened_stays net fd place = by (nat_lt fd 64)
   where
@@ -72,12 +73,12 @@ opened_stays net fd place = by (nat_lt fd 64)
 
 -- an open one is open once another is made
 pub stays_open : (net : Net) (fd domain kind protocol : ℕ) → is_some (socket_at net fd) ≡ true
-    → is_some (socket_at (socket_of net domain kind protocol).net fd) ≡ true
+    → is_some (socket_at (socket_of net domain kind protocol).state fd) ≡ true
 unfolding socket_of
-stays_open net fd domain kind protocol h = by_test (λ (a : Answer). is_open_in a.net fd ≡ true) (is_tcp domain kind protocol) (made_at net (free_place net))
+stays_open net fd domain kind protocol h = by_test (λ (a : Answer Net). is_open_in a.state fd ≡ true) (is_tcp domain kind protocol) (made_at net (free_place net))
     (only net _) (by (free_place net)) h
   where
-    by : (place : Option ℕ) → is_open_in (made_at net place).net fd ≡ true
+    by : (place : Option ℕ) → is_open_in (made_at net place).state fd ≡ true
     by None = h
     by (Some place) = opened_stays net fd place h
 
@@ -87,7 +88,7 @@ emptied (x ∷ xs) zero = refl
 emptied (x ∷ xs) (suc i) = emptied xs i
 
 -- none is open at a descriptor that was closed
-pub closes_open : (net : Net) (fd i : ℕ) → socket_at (close_socket net fd (Connected i)).net fd ≡ None
+pub closes_open : (net : Net) (fd i : ℕ) → socket_at (close_socket net fd (Connected i)).state fd ≡ None
 unfolding socket_at
 closes_open net fd i = by (nat_lt fd 64)
   where
@@ -100,7 +101,7 @@ filled [] place x l = absurd (omega (arith, l))
 filled (y ∷ ys) zero x l = refl
 filled (y ∷ ys) (suc place) x l = filled ys place x (omega (arith, l))
 
-at_place : (net : Net) (place : ℕ) (x : Socket) → place < length net.sockets → socket_at (socket_opened net place x).net (64 + place) ≡ Some x
+at_place : (net : Net) (place : ℕ) (x : Socket) → place < length net.sockets → socket_at (socket_opened net place x).state (64 + place) ≡ Some x
 unfolding socket_at
 at_place net place x l =
     let high : nat_lt (64 + place) 64 ≡ false = grind (arith, nat_tests) in
@@ -109,5 +110,5 @@ at_place net place x l =
 
 -- a connection is accepted at its descriptor
 pub accepted_here : (net : Net) (place i : ℕ) → place < length net.sockets
-    → accepted_by (socket_opened net place (Connected i)).net (socket_opened net place (Connected i)).ret ≡ Accepted i
+    → accepted_by (socket_opened net place (Connected i)).state (socket_opened net place (Connected i)).ret ≡ Accepted i
 accepted_here net place i l = ap (at_open Nothing accepted) (at_place net place (Connected i) l)

@@ -3,11 +3,12 @@ use Rattle.std.proofs.Common.{◌≡◌, ◌∙◌, sym, ap, subst, refl, ℕ, �
 use Rattle.std.specs.Int.{cast_signed, w32}
 use Rattle.nv_calls.specs.declared.numbers.Syscall.{Syscall}
 use Rattle.nv_calls.specs.declared.numbers.Syscall.TheVariants as call
+use Rattle.nv_calls.specs.Answer.{Answer, only}
 use Rattle.nv_calls.specs.Calls.{Request}
 use Rattle.nv_calls.specs.Errors.{EBADF, EINVAL, EFAULT, ENOTTY}
 use Rattle.nv_calls.specs.Limits.{MOST_VECTORS}
 use Rattle.nv_calls.specs.Numbers.{syscall_of}
-use Rattle.nv_fs.specs.States.{Answer, is_open}
+use Rattle.nv_fs.specs.States.{is_open, FileState}
 use Rattle.nv_fs.specs.Closes.{close_of, dup_of, dup3_of}
 use Rattle.nv_fs.specs.Ends.{pipe_of}
 use Rattle.nv_fs.specs.Fetched.{read_of}
@@ -17,7 +18,7 @@ use Rattle.nv_fs.specs.Stored.{write_of}
 use Rattle.nv_fs.specs.Told.{prints}
 use Rattle.nv_fs.proofs.Cases.{by_test}
 use Rattle.nv_fs.proofs.Console.{shown, close_same, dup_same, dup3_same, pipe_same, open_same, unlink_same, seek_same, read_same, write_prints}
-use Rattle.nv_kernel.specs.Serving.{State, Served, request_arg, replied, of_files, answered, serve}
+use Rattle.nv_kernel.specs.Serving.{State, request_arg, of_files, answered, serve}
 use Rattle.nv_sockets.specs.declared.did.Did.{Did}
 use Rattle.nv_sockets.specs.declared.did.Did.TheVariants.{Nothing, Accepted, Sent, Closed, Printed}
 use Rattle.nv_sockets.specs.Did.{by_result, printed, own_did}
@@ -37,16 +38,16 @@ shown_is false (pos n) bytes = refl
 shown_is false (negsuc n) bytes = refl
 
 module _ (s : State) (c : Request) where
-  abbrev Prints : (ℤ → Did) → Served → Type 0
+  abbrev Prints : (ℤ → Did) → Answer State → Type 0
   Prints did r = r.state.files.console ≡ s.files.console ++ printed_bytes (did r.ret) c.payload
 
-  abbrev Quiet : Served → Type 0
+  abbrev Quiet : Answer State → Type 0
   Quiet r = r.state.files.console ≡ s.files.console ++ []
 
   none : s.files.console ≡ s.files.console ++ []
   none = sym (append-nil s.files.console)
 
-  still : (a : Answer) → a.state.console ≡ s.files.console → Quiet (of_files s a)
+  still : (a : Answer FileState) → a.state.console ≡ s.files.console → Quiet (of_files s a)
   still a e = e ∙ none
 
   wrote : Prints (λ ret. by_result (printed (prints s.files (request_arg c 0))) ret) (of_files s (write_of s.files (request_arg c 0) c.payload))
@@ -58,7 +59,7 @@ module _ (s : State) (c : Request) where
   prints_as call.Dup = still (dup_of s.files (request_arg c 0)) (dup_same s.files (request_arg c 0))
   prints_as call.Dup3 = still (dup3_of s.files (request_arg c 0) (request_arg c 1) (request_arg c 2))
       (dup3_same s.files (request_arg c 0) (request_arg c 1) (request_arg c 2))
-  prints_as call.Ioctl = by_test Quiet (is_open s.files (request_arg c 0)) (replied s ENOTTY []) (replied s EBADF []) none none
+  prints_as call.Ioctl = by_test Quiet (is_open s.files (request_arg c 0)) (only s ENOTTY) (only s EBADF) none none
   prints_as call.Unlinkat = still (unlink_at_of s.files (cast_signed w32 (request_arg c 0)) c.payload (request_arg c 2))
       (unlink_same s.files (cast_signed w32 (request_arg c 0)) c.payload (request_arg c 2))
   prints_as call.Openat = still (open_at_of s.files (cast_signed w32 (request_arg c 0)) c.payload (request_arg c 2))
@@ -70,12 +71,12 @@ module _ (s : State) (c : Request) where
   prints_as call.Read = still (read_of s.files (request_arg c 0) (request_arg c 2)) (read_same s.files (request_arg c 0) (request_arg c 2))
   prints_as call.Write = wrote
   prints_as call.Readv =
-      by_test Quiet (nat_lt MOST_VECTORS (request_arg c 2)) (replied s EINVAL []) (of_files s (read_of s.files (request_arg c 0) (request_arg c 3))) none
+      by_test Quiet (nat_lt MOST_VECTORS (request_arg c 2)) (only s EINVAL) (of_files s (read_of s.files (request_arg c 0) (request_arg c 3))) none
       (still (read_of s.files (request_arg c 0) (request_arg c 3)) (read_same s.files (request_arg c 0) (request_arg c 3)))
   prints_as call.Writev =
-      by_test (Prints (λ ret. by_result (printed (prints s.files (request_arg c 0))) ret)) (nat_lt MOST_VECTORS (request_arg c 2)) (replied s EINVAL [])
+      by_test (Prints (λ ret. by_result (printed (prints s.files (request_arg c 0))) ret)) (nat_lt MOST_VECTORS (request_arg c 2)) (only s EINVAL)
       (of_files s (write_of s.files (request_arg c 0) c.payload)) none wrote
-  prints_as call.ClockGettime64 = by_test Quiet (nat_lt 1 (request_arg c 0)) (replied s EINVAL []) _ none none
+  prints_as call.ClockGettime64 = by_test Quiet (nat_lt 1 (request_arg c 0)) (only s EINVAL) _ none none
   prints_as _ = none
 
 -- a call prints what the kernel without sockets is said to do, and on memory that isn't the guest's nothing
@@ -84,11 +85,11 @@ pub own_prints : (s : State) (c : Request) → c.bad ≡ false
     ++ printed_bytes (own_did (syscall_of c.nr) (prints s.files (request_arg c 0)) (serve s c).ret) c.payload
 unfolding serve
 own_prints s c good =
-    subst (λ b. (cond b (replied s EFAULT []) (answered (syscall_of c.nr) s c)).state.files.console
+    subst (λ b. (cond b (only s EFAULT) (answered (syscall_of c.nr) s c)).state.files.console
     ≡ s.files.console ++ printed_bytes
-    (own_did (syscall_of c.nr) (prints s.files (request_arg c 0)) (cond b (replied s EFAULT []) (answered (syscall_of c.nr) s c)).ret) c.payload) (sym good)
+    (own_did (syscall_of c.nr) (prints s.files (request_arg c 0)) (cond b (only s EFAULT) (answered (syscall_of c.nr) s c)).ret) c.payload) (sym good)
     (prints_as s c (syscall_of c.nr))
 
 pub bad_quiet : (s : State) (c : Request) → c.bad ≡ true → (serve s c).state.files.console ≡ s.files.console
 unfolding serve
-bad_quiet s c bad = ap (λ b. (cond b (replied s EFAULT []) (answered (syscall_of c.nr) s c)).state.files.console) bad
+bad_quiet s c bad = ap (λ b. (cond b (only s EFAULT) (answered (syscall_of c.nr) s c)).state.files.console) bad

@@ -5,6 +5,7 @@ use Rattle.std.proofs.lemmas.List.{length-take}
 use Rattle.nv_calls.specs.declared.numbers.Syscall.{Syscall}
 use Rattle.nv_calls.specs.declared.numbers.Syscall.TheVariants as call
 use Rattle.nv_calls.specs.Answers.{most_out_by}
+use Rattle.nv_calls.specs.Answer.{Answer, answer, only}
 use Rattle.nv_calls.specs.Calls.{Request}
 use Rattle.nv_calls.specs.Errors.{EINVAL, EADDRINUSE, ENOSPC, EPIPE}
 use Rattle.nv_calls.specs.Numbers.{syscall_of}
@@ -12,14 +13,14 @@ use Rattle.nv_kernel.specs.Reserved.{most_out}
 use Rattle.nv_fs.specs.Stored.{MOST_WRITTEN}
 use Rattle.nv_sockets.specs.declared.socket.Socket.{Socket}
 use Rattle.nv_sockets.specs.declared.socket.Socket.TheVariants.{Fresh, Bound, Listening, Connected}
-use Rattle.nv_sockets.specs.Sockets.{Net, Answer, answer, only, socket_at, on_socket, with_socket, free_place, is_tcp, made_at, socket_of, is_size, port_in, is_used, bind_to, bind_socket, bind_of, listen_socket, listen_of, next_at, accept_next, are_flags, accept_socket, accept_flagged, accept_of, unread_of, is_going, link_output, with_output, read_socket, write_link, write_socket, close_socket}
+use Rattle.nv_sockets.specs.Sockets.{Net, socket_at, on_socket, with_socket, free_place, is_tcp, made_at, socket_of, is_size, port_in, is_used, bind_to, bind_socket, bind_of, listen_socket, listen_of, next_at, accept_next, are_flags, accept_socket, accept_flagged, accept_of, unread_of, is_going, link_output, with_output, read_socket, write_link, write_socket, close_socket}
 use Rattle.nv_sockets.specs.Serving.{of_open, answered, unless_bad, or_own}
 
-by_test : (b : Bool) (x y : Answer) (n : ℕ) → length x.payload ≤ n → length y.payload ≤ n → length (cond b x y).payload ≤ n
+by_test : (b : Bool) (x y : Answer Net) (n : ℕ) → length x.payload ≤ n → length y.payload ≤ n → length (cond b x y).payload ≤ n
 by_test true x y n p q = p
 by_test false x y n p q = q
 
-on_small : (net : Net) (fd : ℕ) (o : Option Socket) (next : Socket → Answer) (n : ℕ) → ((s : Socket) → length (next s).payload ≤ n) → length (on_socket net fd o next).payload ≤ n
+on_small : (net : Net) (fd : ℕ) (o : Option Socket) (next : Socket → Answer Net) (n : ℕ) → ((s : Socket) → length (next s).payload ≤ n) → length (on_socket net fd o next).payload ≤ n
 on_small net fd None next n h = omega arith
 on_small net fd (Some s) next n h = h s
 
@@ -94,11 +95,11 @@ write_small net bytes (Listening port) n = omega arith
 write_small net bytes (Connected i) n = write_link_small net i bytes n
 
 module _ (net : Net) (own : ℤ) (bytes : List ℕ) (n : ℕ) (h : length bytes ≤ n) where
-  open_by : (o : Option Socket) (next : Socket → Answer) → ((s : Socket) → length (next s).payload ≤ n) → length (or_own net own bytes (option_map next o)).payload ≤ n
+  open_by : (o : Option Socket) (next : Socket → Answer Net) → ((s : Socket) → length (next s).payload ≤ n) → length (or_own net own bytes (option_map next o)).payload ≤ n
   open_by None next k = h
   open_by (Some s) next k = k s
 
-  many_by : (b : Bool) (found : Option Answer) → length (or_own net own bytes found).payload ≤ n → length (or_own net own bytes (cond b None found)).payload ≤ n
+  many_by : (b : Bool) (found : Option (Answer Net)) → length (or_own net own bytes found).payload ≤ n → length (or_own net own bytes (cond b None found)).payload ≤ n
   many_by true found k = h
   many_by false found k = k
 

@@ -1,6 +1,7 @@
 -- Where the host stands, from call to call.
 use Rattle.std.proofs.Common.{◌≡◌, ◌∙◌, sym, ap, subst, ℕ, ℤ, ◌<◌, List, [], ◌∷◌, ◌++◌, length, arith}
 use Rattle.std.specs.Prelude.{slice_index}
+use Rattle.nv_calls.specs.Answer.{Answer, reply_of}
 use Rattle.nv_calls.specs.Calls.{Request, Response, Entry}
 use Rattle.nv_calls.specs.Logs.{IsNew, made, served, child_of, calls_of, live_after, live_next}
 use Rattle.nv_calls.specs.Shapes.{IsShaped}
@@ -10,12 +11,13 @@ use Rattle.nv_kernel.specs.Answering.{AtLog, MayCome, IsAnswer}
 use Rattle.nv_kernel.specs.Crew.{IsCrew}
 use Rattle.nv_kernel.proofs.CrewLaws.{first_is}
 use Rattle.nv_kernel.proofs.Crews.{live_by}
-use Rattle.nv_sockets.specs.Serving.{State, Served, start_of_script, first_state, serve, reply_of}
+use Rattle.nv_kernel.proofs.Going.{log_more}
+use Rattle.nv_sockets.specs.Serving.{State, start_of_script, first_state, serve}
 use Rattle.nv_sockets.specs.declared.host.Host.{Host}
 use Rattle.nv_sockets.specs.Kernel.{HostStands, state_of}
 use Rattle.nv_sockets.specs.Reserved.{Held, Buffered, IsWhole}
 use Rattle.nv_sockets.specs.Standing.{StandsAt}
-use Rattle.nv_sockets.proofs.Going.{log_more, log_count, log_clones, reply_is}
+use Rattle.nv_sockets.proofs.Going.{log_count, log_clones, reply_is}
 use Rattle.nv_sockets.proofs.Threads.{ThreadStep, thread_step}
 
 -- before the first call
@@ -49,20 +51,20 @@ module _ (s t : State) (c : Request) (ret : ℤ) (payload : List ℕ) (shaped : 
     step = thread_step s c here.crew shaped
 
     same_ret : e.reply.ret ≡ (serve s c).ret
-    same_ret = ap (λ (r : Response). r.ret) reply ∙ sym (ap (λ (r : Served). r.ret) answer)
+    same_ret = ap (λ (r : Response). r.ret) reply ∙ sym (ap (λ (r : Answer State). r.ret) answer)
 
     new : IsNew (live_after log) (child_of e)
     new = subst (λ (z : List ℕ). IsNew z (child_of e)) (sym here.live) (subst (λ (r : ℤ). IsNew s.own.crew.live (made c.nr r)) (sym same_ret) step.new)
 
     live : live_after (log ++ e ∷ []) ≡ t.own.crew.live
     live = live_more log e ∙ ap (λ (z : List ℕ). live_next z e) here.live ∙ ap (λ (r : ℤ). live_by c.nr c.tid s.own.crew.live r) same_ret
-        ∙ sym step.live ∙ ap (λ (r : Served). r.state.own.crew.live) answer
+        ∙ sym step.live ∙ ap (λ (r : Answer State). r.state.own.crew.live) answer
 
     next : StandsAt setup (log ++ e ∷ []) t
     next = record {
-      state = sym (ap (λ (r : Served). r.state) answer) ∙ ap (λ (z : State). (serve z c).state) here.state ∙ sym (log_more setup log e);
+      state = sym (ap (λ (r : Answer State). r.state) answer) ∙ ap (λ (z : State). (serve z c).state) here.state ∙ sym (log_more serve (first_state setup) log e);
       live = live;
-      crew = subst (λ (r : Served). IsCrew r.state.own.crew) answer step.is;
+      crew = subst (λ (r : Answer State). IsCrew r.state.own.crew) answer step.is;
     }
 
   -- the host answers as the definition says, wherever it stands

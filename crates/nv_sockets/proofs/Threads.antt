@@ -4,6 +4,7 @@ use Rattle.std.specs.Prelude.{filter}
 use Rattle.std.proofs.lemmas.Bool.Decides.{nat_tests}
 use Rattle.nv_calls.specs.declared.numbers.Syscall.{Syscall}
 use Rattle.nv_calls.specs.declared.numbers.Syscall.TheVariants.{Clone}
+use Rattle.nv_calls.specs.Answer.{Answer}
 use Rattle.nv_calls.specs.Calls.{Request}
 use Rattle.nv_calls.specs.Logs.{made, with_child, IsNew}
 use Rattle.nv_calls.specs.Numbers.{syscall_of}
@@ -12,7 +13,7 @@ use Rattle.nv_kernel.specs.Crew.{IsCrew}
 use Rattle.nv_kernel.specs.Serving as kernel
 use Rattle.nv_kernel.proofs.Crews.{live_by, crew_step}
 use Rattle.nv_kernel.proofs.Going.{not_made}
-use Rattle.nv_sockets.specs.Sockets.{Net, Answer}
+use Rattle.nv_sockets.specs.Sockets.{Net}
 use Rattle.nv_sockets.specs.Serving.{State, answered, unless_bad, or_own, serve}
 use Rattle.nv_sockets.proofs.Going.{own_next}
 
@@ -23,17 +24,17 @@ clone_at : (nr : ℕ) → nr ≡ 220 → syscall_of nr ≡ Clone
 unfolding syscall_of
 clone_at nr h = ap syscall_of h
 
-none_by : (b : Bool) (net : Net) (c : Request) → cond {A = Option Answer} b None (answered Clone net c) ≡ None
+none_by : (b : Bool) (net : Net) (c : Request) → cond {A = Option (Answer Net)} b None (answered Clone net c) ≡ None
 none_by true net c = refl
 none_by false net c = refl
 
 -- no socket answers a clone
 no_socket : (net : Net) (c : Request) → c.nr ≡ 220 → unless_bad net c ≡ None
-no_socket net c h = ap (λ (k : Syscall). cond {A = Option Answer} c.bad None (answered k net c)) (clone_at c.nr h) ∙ none_by c.bad net c
+no_socket net c h = ap (λ (k : Syscall). cond {A = Option (Answer Net)} c.bad None (answered k net c)) (clone_at c.nr h) ∙ none_by c.bad net c
 
 -- so a thread is made exactly where it is without sockets
 made_by : (net : Net) (c : Request) (ret : ℤ) (bytes : List ℕ) (b : Bool) → (c.nr == 220) ≡ b → made c.nr (or_own net ret bytes (unless_bad net c)).ret ≡ made c.nr ret
-made_by net c ret bytes true h = ap (λ (o : Option Answer). made c.nr (or_own net ret bytes o).ret) (no_socket net c (same c.nr 220 h))
+made_by net c ret bytes true h = ap (λ (o : Option (Answer Net)). made c.nr (or_own net ret bytes o).ret) (no_socket net c (same c.nr 220 h))
 made_by net c ret bytes false h = not_made c.nr (or_own net ret bytes (unless_bad net c)).ret h ∙ sym (not_made c.nr ret h)
 
 made_same : (s : State) (c : Request) → made c.nr (serve s c).ret ≡ made c.nr (kernel.serve s.own c).ret

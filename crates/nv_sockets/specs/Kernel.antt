@@ -1,5 +1,6 @@
 -- What a kernel with sockets answers by, from call to call.
 use Rattle.std.specs.Prelude.{◌≡◌, List}
+use Rattle.nv_calls.specs.Answer.{state_after}
 use Rattle.nv_calls.specs.Calls.{Request, Entry}
 use Rattle.nv_calls.specs.Logs.{calls_of}
 use Rattle.nv_script.specs.Scripts.{Setup}
@@ -7,7 +8,7 @@ use Rattle.nv_kernel.specs.Reserved as kernel
 use Rattle.nv_sockets.specs.declared.host.Host.{Host}
 use Rattle.nv_sockets.specs.Sockets.{Link}
 use Rattle.nv_sockets.specs.Reserved.{CanSend, IsWhole}
-use Rattle.nv_sockets.specs.Serving.{State, first_state, state_after}
+use Rattle.nv_sockets.specs.Serving.{State, serve, first_state}
 use Rattle.nv_sockets.specs.Standing.{StandsAt}
 
 -- there is memory for what a call leaves
@@ -27,4 +28,4 @@ pub record HostStands (setup : Setup) (log : List Entry) (h : Host) : Type 0 whe
 
 -- the connections after a log
 abbrev pub links_after : Setup → List Entry → List Link
-links_after setup log = (state_after (first_state setup) (calls_of log)).net.links
+links_after setup log = (state_after serve (first_state setup) (calls_of log)).net.links

@@ -1,6 +1,7 @@
 -- Sockets over the connections of a script (socket(2), bind(2), listen(2), accept(2), ip(7)), as lists whose places are the numbers.
 use Rattle.std.specs.Prelude.{ℕ, ◌+◌, ◌-◌, ◌*◌, ℤ, pos, Bool, false, ◌&&◌, ◌||◌, ◌==◌, min, nat_lt, nat_le, List, [], ◌∷◌, ◌++◌, length, take, drop, replicate, Option, Some, None, is_none, is_some, not, true, option_map, slice_index, slice_index_or, slice_set, if◌then◌else◌}
 use Rattle.std.specs.List.{list_any, position_from}
+use Rattle.nv_calls.specs.Answer.{Answer, answer, only}
 use Rattle.nv_calls.specs.Errors.{EBADF, EAGAIN, EINVAL, EMFILE, ENOSPC, EPIPE, ENOTSOCK, EADDRINUSE, ENOTCONN}
 use Rattle.nv_fs.specs.Stored.{MOST_WRITTEN}
 use Rattle.nv_sockets.specs.declared.socket.Socket.{Socket}
@@ -24,19 +25,6 @@ pub record Net : Type 0 where
   pub waiting : List Waiting
   pub links : List Link
   pub limit : ℕ
-
--- what a call leaves, its result, and the bytes that it hands out
-pub record Answer : Type 0 where
-  pub net : Net
-  pub ret : ℤ
-  pub payload : List ℕ
-
-abbrev pub answer : Net → ℤ → List ℕ → Answer
-answer net ret payload = record { net = net; ret = ret; payload = payload }
-
--- an answer that changes nothing and hands out nothing
-abbrev pub only : Net → ℤ → Answer
-only net ret = answer net ret []
 
 -- ---- at the start
 
@@ -63,7 +51,7 @@ abbrev pub fault_of : ℕ → ℤ
 fault_of fd = if nat_lt fd 64 then ENOTSOCK else EBADF
 
 -- the answer of a call that needs an open socket
-abbrev pub on_socket : Net → ℕ → Option Socket → (Socket → Answer) → Answer
+abbrev pub on_socket : Net → ℕ → Option Socket → (Socket → Answer Net) → Answer Net
 on_socket net fd None next = only net (fault_of fd)
 on_socket net fd (Some socket) next = next socket
 
@@ -76,7 +64,7 @@ unfoldable pub free_place : Net → Option ℕ
 free_place net = position_from is_none 0 net.sockets
 
 -- a new socket at a place; its descriptor is the result
-abbrev pub socket_opened : Net → ℕ → Socket → Answer
+abbrev pub socket_opened : Net → ℕ → Socket → Answer Net
 socket_opened net place socket = answer (record net { sockets = slice_set net.sockets place (Some socket) }) (pos (64 + place)) []
 
 -- ---- socket(2)
@@ -93,11 +81,11 @@ is_stream kind = (kind == 1) || (kind == 0x801) || (kind == 0x80001) || (kind ==
 abbrev pub is_tcp : ℕ → ℕ → ℕ → Bool
 is_tcp domain kind protocol = (domain == 2) && (is_stream kind && ((protocol == 0) || (protocol == 6)))
 
-abbrev pub made_at : Net → Option ℕ → Answer
+abbrev pub made_at : Net → Option ℕ → Answer Net
 made_at net None = only net EMFILE
 made_at net (Some place) = socket_opened net place Fresh
 
-unfoldable pub socket_of : Net → ℕ → ℕ → ℕ → Answer
+unfoldable pub socket_of : Net → ℕ → ℕ → ℕ → Answer Net
 socket_of net domain kind protocol = if is_tcp domain kind protocol then made_at net (free_place net) else only net EINVAL
 
 -- ---- bind(2)
@@ -124,28 +112,28 @@ has_port port (Some (Connected i)) = false
 unfoldable pub is_used : Net → ℕ → Bool
 is_used net port = list_any (has_port port) net.sockets
 
-abbrev pub bind_to : Net → ℕ → Option ℕ → Answer
+abbrev pub bind_to : Net → ℕ → Option ℕ → Answer Net
 bind_to net fd None = only net EINVAL
 bind_to net fd (Some port) = if is_used net port then only net EADDRINUSE else answer (with_socket net fd (Some (Bound port))) (pos 0) []
 
-abbrev pub bind_socket : Net → ℕ → ℕ → List ℕ → Socket → Answer
+abbrev pub bind_socket : Net → ℕ → ℕ → List ℕ → Socket → Answer Net
 bind_socket net fd size address Fresh = if is_size size then bind_to net fd (port_in address) else only net EINVAL
 bind_socket net fd size address (Bound port) = only net EINVAL
 bind_socket net fd size address (Listening port) = only net EINVAL
 bind_socket net fd size address (Connected i) = only net EINVAL
 
-unfoldable pub bind_of : Net → ℕ → ℕ → List ℕ → Answer
+unfoldable pub bind_of : Net → ℕ → ℕ → List ℕ → Answer Net
 bind_of net fd size address = on_socket net fd (socket_at net fd) (bind_socket net fd size address)
 
 -- ---- listen(2)
 
-abbrev pub listen_socket : Net → ℕ → Socket → Answer
+abbrev pub listen_socket : Net → ℕ → Socket → Answer Net
 listen_socket net fd Fresh = only net EINVAL
 listen_socket net fd (Bound port) = answer (with_socket net fd (Some (Listening port))) (pos 0) []
 listen_socket net fd (Listening port) = only net (pos 0)
 listen_socket net fd (Connected i) = only net EINVAL
 
-unfoldable pub listen_of : Net → ℕ → Answer
+unfoldable pub listen_of : Net → ℕ → Answer Net
 listen_of net fd = on_socket net fd (socket_at net fd) (listen_socket net fd)
 
 -- ---- accept(2)
@@ -168,21 +156,21 @@ abbrev pub with_accepted : Net → ℕ → Net
 with_accepted net i = record net { waiting = without i net.waiting }
 
 -- EAGAIN in place of waiting
-abbrev pub accept_next : Net → Option ℕ → Option ℕ → Answer
+abbrev pub accept_next : Net → Option ℕ → Option ℕ → Answer Net
 accept_next net None next = only net EMFILE
 accept_next net (Some place) None = only net EAGAIN
 accept_next net (Some place) (Some i) = socket_opened (with_accepted net i) place (Connected i)
 
-abbrev pub accept_socket : Net → Socket → Answer
+abbrev pub accept_socket : Net → Socket → Answer Net
 accept_socket net Fresh = only net EINVAL
 accept_socket net (Bound port) = only net EINVAL
 accept_socket net (Listening port) = accept_next net (free_place net) (next_at net port)
 accept_socket net (Connected i) = only net EINVAL
 
-abbrev pub accept_flagged : Net → ℕ → Socket → Answer
+abbrev pub accept_flagged : Net → ℕ → Socket → Answer Net
 accept_flagged net flags socket = if are_flags flags then accept_socket net socket else only net EINVAL
 
-unfoldable pub accept_of : Net → ℕ → ℕ → Answer
+unfoldable pub accept_of : Net → ℕ → ℕ → Answer Net
 accept_of net fd flags = on_socket net fd (socket_at net fd) (accept_flagged net flags)
 
 -- ---- read(2) and readv(2), of no more bytes than a call moves
@@ -226,12 +214,12 @@ abbrev pub with_inbox : Net → ℕ → (Inbox → Inbox) → Net
 with_inbox net i change = with_link net i (record (link_at net i) { inbox = option_map change (link_at net i).inbox })
 
 -- at most n bytes of what isn't read
-abbrev pub read_link : Net → ℕ → ℕ → Answer
+abbrev pub read_link : Net → ℕ → ℕ → Answer Net
 read_link net i n =
     let part = take n (unread_of net i) in
     answer (with_inbox net i (λ inbox. record inbox { unread = drop n inbox.unread })) (pos (length part)) part
 
-abbrev pub read_socket : Net → ℕ → Socket → Answer
+abbrev pub read_socket : Net → ℕ → Socket → Answer Net
 read_socket net n Fresh = only net ENOTCONN
 read_socket net n (Bound port) = only net ENOTCONN
 read_socket net n (Listening port) = only net ENOTCONN
@@ -243,14 +231,14 @@ abbrev pub with_output : Net → ℕ → List ℕ → Net
 with_output net i bytes = with_link net i (record (link_at net i) { output = bytes })
 
 -- a connection takes as many bytes as fit the limit
-abbrev pub write_link : Net → ℕ → List ℕ → Answer
+abbrev pub write_link : Net → ℕ → List ℕ → Answer Net
 write_link net i bytes =
     if length bytes == 0 then only net (pos 0)
     else (if not (is_going net i) then only net EPIPE
     else (if nat_le net.limit (length (link_output net i)) then only net ENOSPC
     else (let part = take (min MOST_WRITTEN (net.limit - length (link_output net i))) bytes in answer (with_output net i (link_output net i ++ part)) (pos (length part)) [])))
 
-abbrev pub write_socket : Net → List ℕ → Socket → Answer
+abbrev pub write_socket : Net → List ℕ → Socket → Answer Net
 write_socket net bytes Fresh = only net EPIPE
 write_socket net bytes (Bound port) = only net EPIPE
 write_socket net bytes (Listening port) = only net EPIPE
@@ -264,5 +252,5 @@ closed_link net (Bound port) = net
 closed_link net (Listening port) = net
 closed_link net (Connected i) = with_link net i (record (link_at net i) { inbox = None })
 
-abbrev pub close_socket : Net → ℕ → Socket → Answer
+abbrev pub close_socket : Net → ℕ → Socket → Answer Net
 close_socket net fd socket = answer (closed_link (with_socket net fd None) socket) (pos 0) []

@@ -1,6 +1,7 @@
 // accept and accept4.
 ghost use Rattle.std.specs.Prelude.{◌≡◌, []};
-ghost use Rattle.nv_sockets.specs.Sockets.{answer, free_place, next_at, accept_next, accept_socket, accept_flagged, accept_of};
+ghost use Rattle.nv_calls.specs.Answer.{answer};
+ghost use Rattle.nv_sockets.specs.Sockets.{free_place, next_at, accept_next, accept_socket, accept_flagged, accept_of};
 ghost use Rattle.nv_sockets.specs.Did.{accepted_by};
 
 use crate::binding::are_flags;

@@ -1,6 +1,7 @@
 // socket, bind and listen.
 ghost use Rattle.std.specs.Prelude.{◌≡◌, ◌+◌, ◌≤◌, ◌<◌, [], length};
-ghost use Rattle.nv_sockets.specs.Sockets.{answer, are_flags, is_stream, is_tcp, is_size, port_by, port_in, socket_of, bind_to, bind_socket, bind_of, listen_socket, listen_of};
+ghost use Rattle.nv_calls.specs.Answer.{answer};
+ghost use Rattle.nv_sockets.specs.Sockets.{are_flags, is_stream, is_tcp, is_size, port_by, port_in, socket_of, bind_to, bind_socket, bind_of, listen_socket, listen_of};
 
 use crate::places::fault_of;
 use crate::socket::Socket;

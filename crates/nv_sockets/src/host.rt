@@ -1,5 +1,6 @@
 // What calls read and change, sockets and all.
 ghost use Rattle.std.specs.Prelude.{◌≡◌, ◌≤◌, ◌<◌, length, ◌==◌, false, OnOk, IfOk, if◌then◌else◌};
+ghost use Rattle.nv_calls.specs.Answer.{answer};
 ghost use Rattle.nv_calls.specs.Calls.{request};
 ghost use Rattle.nv_calls.specs.Limits.{MOST_EVENTS};
 ghost use Rattle.nv_calls.specs.Numbers.{syscall_of};
@@ -9,7 +10,6 @@ ghost use Rattle.nv_kernel.specs.Serving.{request_arg};
 ghost use Rattle.nv_sockets.specs.Kernel.{state_of};
 ghost use Rattle.nv_sockets.specs.Reserved.{CanSend, IsWhole};
 ghost use Rattle.nv_sockets.specs.Serving.{unless_bad, or_own, first_state, serve};
-ghost use Rattle.nv_sockets.specs.Sockets.{answer};
 ghost use Rattle.nv_sockets.specs.declared.did.Did.TheVariants.{Nothing};
 ghost use Rattle.nv_sockets.specs.Did.{did_beside, did};
 ghost use Rattle.nv_fs.specs.Told.{prints};

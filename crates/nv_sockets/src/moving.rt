@@ -1,8 +1,9 @@
 // read, write and close of sockets, and the calls by their numbers.
 ghost use Rattle.std.specs.Prelude.{◌≡◌, ◌+◌, ◌≤◌, ◌<◌, true, [], ◌++◌, Some, None, min, length, nat_lt, OnOk, if◌then◌else◌};
+ghost use Rattle.nv_calls.specs.Answer.{answer};
 ghost use Rattle.nv_calls.specs.Calls.{request};
 ghost use Rattle.nv_calls.specs.Limits.{MOST_VECTORS};
-ghost use Rattle.nv_sockets.specs.Sockets.{answer, is_going, link_at, link_output, socket_at, with_link, read_link, read_socket, with_output, write_link, write_socket, close_socket};
+ghost use Rattle.nv_sockets.specs.Sockets.{is_going, link_at, link_output, socket_at, with_link, read_link, read_socket, with_output, write_link, write_socket, close_socket};
 ghost use Rattle.nv_sockets.specs.Serving.{of_open, unless_many, answered, or_own};
 ghost use Rattle.nv_sockets.specs.Reserved.{HasMemory, HoldsMore, CanWriteTo, CanWrite, can_send};
 ghost use Rattle.nv_sockets.specs.declared.did.Did.TheVariants.{Nothing};

@@ -1,7 +1,8 @@
 // What a descriptor names, which are free, which ports are in use, and who waits.
 ghost use Rattle.std.specs.Prelude.{◌≡◌, ◌<◌, ◌≤◌, ◌+◌, ◌==◌, [], length, is_none, IfSome, slice_index_or, None};
 ghost use Rattle.std.specs.List.{position_from, list_any};
-ghost use Rattle.nv_sockets.specs.Sockets.{answer, fault_of, socket_at, with_socket, free_place, socket_opened, has_port, is_used, first_at, next_at, without, with_accepted};
+ghost use Rattle.nv_calls.specs.Answer.{answer};
+ghost use Rattle.nv_sockets.specs.Sockets.{fault_of, socket_at, with_socket, free_place, socket_opened, has_port, is_used, first_at, next_at, without, with_accepted};
 
 use crate::socket::Socket;
 use crate::sockets::{FIRST_SOCKET, Sockets};

@@ -1,12 +1,13 @@
 use denote.Exit.{no}
 use denote.Param.Send.{param_send, arg_send}
 use Rattle.std.proofs.Common.{◌≡◌, ◌∙◌, sym, ap, List, map}
+use Rattle.nv_calls.specs.Answer.{state_after}
 use Rattle.nv_calls.specs.Logs.{calls_of}
 use Rattle.nv_sockets.specs.Serving.{link_written}
 use Rattle.nv_sockets.specs.Views.{link_of}
 use Rattle.nv_sockets.proofs.Lines.{written_is}
 use Rattle.nv_arrivals.specs.Arrivals.{Arrival}
-use Rattle.nv_arriving.specs.Arriving.{Stage, first_stage, stage_after}
+use Rattle.nv_arriving.specs.Arriving.{Stage, serve_next, first_stage}
 use Rattle.nv_arriving.specs.Scripted.{stage_from}
 use Rattle.nv_arriving.specs.declared.scripted.Listed.{Listed}
 use Rattle.nv_arriving.proofs.Listing.{connections_from}
@@ -22,7 +23,7 @@ module _ (c : goal.After-connections) where
       let k = c.args.kernel.now in
       let stands = c.answers.ensures.stands in
       c.connections.ensures.links ∙ ap (λ (l : Listed). l.guests.stage.here.state.net.links) c.answers.ensures.is ∙ ap (λ (z : Stage). z.here.state.net.links) stands.here.stage
-      ∙ ap (λ (z : List Arrival). (stage_after (first_stage k.setup z) (calls_of k.log)).here.state.net.links) stands.all
+      ∙ ap (λ (z : List Arrival). (state_after serve_next (first_stage k.setup z) (calls_of k.log)).here.state.net.links) stands.all
 
 pub returns-clause-links : goal.returns-clause-links
 returns-clause-links c = links c

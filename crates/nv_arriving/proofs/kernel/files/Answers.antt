@@ -1,9 +1,10 @@
 use denote.Exit.{no}
 use denote.Param.Send.{param_send, arg_send}
 use Rattle.std.proofs.Common.{◌∙◌, ap, List}
+use Rattle.nv_calls.specs.Answer.{state_after}
 use Rattle.nv_calls.specs.Logs.{calls_of}
 use Rattle.nv_arrivals.specs.Arrivals.{Arrival}
-use Rattle.nv_arriving.specs.Arriving.{Stage, first_stage, stage_after}
+use Rattle.nv_arriving.specs.Arriving.{Stage, serve_next, first_stage}
 use Rattle.nv_arriving.specs.declared.scripted.Listed.{Listed}
 use Rattle.nv_arriving.proofs.Sending.{listed_send}
 use Rattle.nv_arriving.proofs.kernel.files.Goals as goal
@@ -16,4 +17,4 @@ returns c =
     let k = c.args.kernel.now in
     let stands = c.answers.ensures.stands in
     c.files.ensures ∙ ap (λ (l : Listed). l.guests.stage.here.state.own.files) c.answers.ensures.is ∙ ap (λ (z : Stage). z.here.state.own.files) stands.here.stage
-    ∙ ap (λ (z : List Arrival). (stage_after (first_stage k.setup z) (calls_of k.log)).here.state.own.files) stands.all
+    ∙ ap (λ (z : List Arrival). (state_after serve_next (first_stage k.setup z) (calls_of k.log)).here.state.own.files) stands.all

@@ -1,5 +1,6 @@
 use Rattle.std.proofs.Common.{rules, to_z, of_z, w32, ℤ, ◌≡◌, ◌∙◌, sym, ap, subst, refl, false, ◌+◌, ◌<◌, ◌≤◌, [], List, length, map, take, drop, option_map, arith}
 use Rattle.std.proofs.lemmas.List.{length-map, length-take, length-drop}
+use Rattle.nv_calls.specs.Answer.{Answer}
 use Rattle.nv_calls.specs.Calls.{Request, request}
 use Rattle.nv_kernel.specs.Answering.{IsAnswer}
 use Rattle.nv_arrivals.specs.declared.arrival.Arrival as code
@@ -7,7 +8,7 @@ use Rattle.nv_arrivals.specs.Arrivals.{Arrival}
 use Rattle.nv_arrivals.specs.Doings.{Says}
 use Rattle.nv_arrivals.specs.Views.{view as arrival_of}
 use Rattle.nv_arriving.specs.Arrivals.{taken_for, in_vain}
-use Rattle.nv_arriving.specs.Arriving.{Stage, wait_of, taken, ready_for, arrive_all, unless_vain, Reached, serve_by, answer_next, serve_next, start_of_arrivals}
+use Rattle.nv_arriving.specs.Arriving.{Stage, wait_of, taken, ready_for, arrive_all, unless_vain, serve_by, answer_next, serve_next, start_of_arrivals, Standing}
 use Rattle.nv_arriving.specs.Arrivals.{ends}
 use Rattle.nv_arriving.specs.Timing.{until_of}
 use Rattle.nv_arriving.specs.Doings.{said}
@@ -91,8 +92,8 @@ module _ (g : Over) (c : After-pass g) where
   abbrev now : Coming g.row.O.Denot
   now = now_where c.self.inside.came.items
 
-  abbrev left : Reached
-  left = record { here = standing_of c.answer-ret.new.self; ret = c.answer-ret.result; payload = c.answer-ret.new.out.bytes }
+  abbrev left : Answer Standing
+  left = record { state = standing_of c.answer-ret.new.self; ret = c.answer-ret.result; payload = c.answer-ret.new.out.bytes }
 
   count : c.self.inside.intake.count ≡ taken mine call
   count = ap (λ (z : Intake). z.count) found
@@ -109,9 +110,9 @@ module _ (g : Over) (c : After-pass g) where
   answer : answer_next mine call ≡ left
   answer = ap (λ z. serve_by z call (until_of mine.here call)) (sym ready) ∙ c.answer-ret.ensures.answer
 
-  next : now.stage ≡ serve_next mine call
+  next : now.stage ≡ (serve_next mine call).state
   next =
-      let s : standing_of c.answer-ret.new.self ≡ (answer_next mine call).here = ap (λ (r : Reached). r.here) (sym answer) in
+      let s : standing_of c.answer-ret.new.self ≡ (answer_next mine call).state = ap (λ (r : Answer Standing). r.state) (sym answer) in
       let r : drop (c.self.inside.used + c.self.inside.intake.count) came ≡ drop (taken mine call) mine.rest
       = drop_more c.self.inside.used c.self.inside.intake.count came ∙ ap (λ n. drop n mine.rest) count in
       λ j. record { here = s j; rest = r j }

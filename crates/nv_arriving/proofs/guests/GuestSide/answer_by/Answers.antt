@@ -1,11 +1,12 @@
 use Rattle.std.proofs.Common.{rules, ◌≡◌, ◌∙◌, sym, ap, subst, ℤ, to_z, of_z, w32, option_map}
+use Rattle.nv_calls.specs.Answer.{Answer}
 use Rattle.nv_calls.specs.Calls.{Request, request}
 use Rattle.nv_sockets.specs.declared.did.Did.{Did}
 use Rattle.nv_sockets.specs.declared.host.Host.{Host}
 use Rattle.nv_sockets.specs.Kernel.{state_of}
 use Rattle.nv_sockets.specs.Serving.{State}
 use Rattle.nv_arriving.specs.declared.guests.GuestSide.{GuestSide}
-use Rattle.nv_arriving.specs.Arriving.{Standing, Reached}
+use Rattle.nv_arriving.specs.Arriving.{Standing}
 use Rattle.nv_arriving.specs.Doings.{said}
 use Rattle.nv_arriving.specs.Said.{said_of}
 use Rattle.nv_arriving.specs.Views.{standing_of, room_of}
@@ -19,7 +20,7 @@ use Rattle.nv_arriving.proofs.guests.GuestSide.answer_by.Goals as goal
 
 pub returns-in-Some-clause-few : goal.returns-in-Some-clause-few
 returns-in-Some-clause-few c =
-    let left : ℤ → Reached = λ ret. record { here = standing_of c.answer_later.new.self; ret = ret; payload = c.answer_later.new.out.bytes } in
+    let left : ℤ → Answer Standing = λ ret. record { state = standing_of c.answer_later.new.self; ret = ret; payload = c.answer_later.new.out.bytes } in
     later_few (standing_of c.args.self.now) (request c.args.call.now) c.args.until (left c.in-Some.ret)
     (c.answer_later.ensures.answer ∙ ap (option_map left) c.in-Some.is)
 
@@ -34,7 +35,7 @@ returns-in-Some-clause-said c =
     let call : Request = request c.args.call.now in
     let was : Standing = standing_of c.args.self.now in
     let now : Standing = standing_of c.answer_later.new.self in
-    let left : ℤ → Reached = λ ret. record { here = now; ret = ret; payload = c.answer_later.new.out.bytes } in
+    let left : ℤ → Answer Standing = λ ret. record { state = now; ret = ret; payload = c.answer_later.new.out.bytes } in
     let back : to_z w32 (of_z w32 c.in-Some.ret) ≡ c.in-Some.ret = search rules in
     ap (λ (ret : ℤ). said was.state call ret now.state) (c.quiet.ensures.ret ∙ back)
     ∙ (later_says was call c.args.until now c.in-Some.ret c.answer_later.new.out.bytes (c.answer_later.ensures.answer ∙ ap (option_map left) c.in-Some.is)

@@ -1,7 +1,8 @@
 use Rattle.std.proofs.Common.{rules, ◌≡◌, ◌∙◌, sym, ap, ◌≤◌, ◌+◌, [], length, pos, to_z, w32, arith}
 use Rattle.std.specs.Prelude.{true}
 use Rattle.nv_fs.specs.declared.open_file.Target.TheVariants.{Reader}
-use Rattle.nv_fs.specs.States.{answer, has_open}
+use Rattle.nv_calls.specs.Answer.{answer}
+use Rattle.nv_fs.specs.States.{has_open}
 use Rattle.nv_fs.specs.Fetched.{pipe_at}
 use Rattle.nv_fs.proofs.Piped.{pipe_written}
 use Rattle.nv_fs.proofs.disk.FileSystem.write_pipe.Goals as goal

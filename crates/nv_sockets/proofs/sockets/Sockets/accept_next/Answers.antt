@@ -1,5 +1,6 @@
 use Rattle.std.proofs.Common.{rules, ◌≡◌, ◌∙◌, sym, ap, subst, ◌<◌, length, to_z, of_z, w32}
-use Rattle.nv_sockets.specs.Sockets.{Net, Answer}
+use Rattle.nv_calls.specs.Answer.{Answer}
+use Rattle.nv_sockets.specs.Sockets.{Net}
 use Rattle.nv_sockets.specs.Did.{accepted_by}
 use Rattle.nv_sockets.proofs.Outputs.{accepted_here}
 use Rattle.nv_sockets.proofs.sockets.Sockets.accept_next.Goals as goal
@@ -10,4 +11,4 @@ returns-clause-did c =
     let place : c.in-Some.place < length c.leave_queue.new.self.net.sockets = subst (λ (net : Net). c.in-Some.place < length net.sockets)
     (sym c.leave_queue.ensures.net) c.in-Some.ensures.inside in
     sym (accepted_here c.leave_queue.new.self.net c.in-Some.place c.in-Some-next_at.i place)
-    ∙ (ap (λ (a : Answer). accepted_by a.net a.ret) c.install.ensures.answer ∙ ap (accepted_by c.install.new.self.net) (sym back))
+    ∙ (ap (λ (a : Answer Net). accepted_by a.state a.ret) c.install.ensures.answer ∙ ap (accepted_by c.install.new.self.net) (sym back))
