@@ -20,7 +20,8 @@ class Poller(selectors.EpollSelector):
         self.readers = {self.urgent.fileno(): lambda: self.serve(self.urgent, 0), self.fileno(): self.take}
         self.writers = {}
         self.events = {}  # for which each is watched
-        self.last = []  # what is done once, before it waits again
+        self.late = set()  # those to be read that aren't watched yet
+        self.last = []  # outlets that send what they have before it waits again
         self.looked = 0  # when it looked at all
         self.taken = ()  # what asyncio has to serve itself
         self.is_asked = False  # asyncio has something else to do
@@ -36,13 +37,15 @@ class Poller(selectors.EpollSelector):
         now = time.monotonic()
         end = now + (LONGEST if timeout is None else timeout)
         while True:
-            while self.last:
-                self.do(self.last.pop())
+            if self.last:
+                self.send_last()
+            left = end - now
             if now - self.looked < LULL:
-                self.serve(self.urgent, min(end - now, LULL))
+                self.serve(self.urgent, left if left < LULL else LULL)
                 now = time.monotonic()
             else:
-                self.serve(self.all, end - now)
+                self.watch_late()
+                self.serve(self.all, left)
                 now = self.looked = time.monotonic()
             if self.taken or self.is_asked or now >= end:
                 return self.taken
@@ -50,25 +53,50 @@ class Poller(selectors.EpollSelector):
     def serve(self, them, timeout):
         """Waits for so long, and serves those of them that are ready."""
         for number, event in them.poll(timeout, MOST_READY):
-            if event != EPOLLOUT and (act := self.readers.get(number)):
-                self.do(act)
-            if event != EPOLLIN and (act := self.writers.get(number)):
-                self.do(act)
+            try:
+                if event != EPOLLOUT and (act := self.readers.get(number)):
+                    act()
+                if event != EPOLLIN and (act := self.writers.get(number)):
+                    act()
+            except Exception as fault:
+                self.report(fault)
+
+    def send_last(self):
+        while self.last:
+            try:
+                self.last.pop().send_first()
+            except Exception as fault:
+                self.report(fault)
 
     @staticmethod
-    def do(act):
-        """Does this. A fault is asyncio's to report, as one of what it does itself."""
-        try:
-            act()
-        except Exception as fault:
-            asyncio.get_running_loop().call_exception_handler({"message": f"in {act}", "exception": fault})
+    def report(fault):
+        """A fault is asyncio's to report, as one of what it does itself."""
+        asyncio.get_running_loop().call_exception_handler({"message": "in what its poller serves", "exception": fault})
 
     def take(self):
         self.taken = super().select(0)
 
     def read(self, number, act):
         """From now on this is done when the descriptor can be read; nothing, if it is None."""
+        self.late.discard(number)
         self.watch(number, EPOLLIN, self.readers, act)
+
+    def read_late(self, number, act):
+        """As `read`, from the next lull on: by then most of those that have just been read are closed."""
+        self.readers[number] = act
+        self.late.add(number)
+
+    def watch_late(self):
+        while self.late:
+            number = self.late.pop()
+            self.watch(number, EPOLLIN, self.readers, self.readers[number])
+
+    def forget(self, number):
+        """Nothing is done any more: the descriptor is closed next, and isn't watched then."""
+        self.late.discard(number)
+        self.readers.pop(number, None)
+        self.writers.pop(number, None)
+        self.events.pop(number, None)
 
     def write(self, number, act):
         """From now on this is done when the descriptor can be written; nothing, if it is None."""
@@ -79,16 +107,17 @@ class Poller(selectors.EpollSelector):
         if act:
             acts[number] = act
             after = before | event
-        elif acts.pop(number, None):
-            after = before & ~event
         else:
+            acts.pop(number, None)
+            after = before & ~event
+        if before == after:
             return
         self.events[number] = after
         if not before:
             self.urgent.register(number, after)
         elif not after:
             self.urgent.unregister(number)
-        elif before != after:
+        else:
             self.urgent.modify(number, after)
 
     def read_patiently(self, number, act):

@@ -358,9 +358,9 @@ class Run:
         client = self.accepted.pop(number)
         if is_cut:
             self.work(client.cut(self.patience), self.closers)
-        elif not (gone := client.close(self.patience)).done():
-            self.closers.add(gone)
-            gone.add_done_callback(self.closers.discard)
+        elif not client.close(self.patience):
+            self.closers.add(client.gone)
+            client.gone.add_done_callback(self.closers.discard)
 
     def do(self, word, *fields):
         """Does what a line of the command says."""

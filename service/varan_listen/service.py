@@ -111,7 +111,7 @@ class Service:
                     await self.place(client)
                 except OSError as fault:
                     self.fail(fault)
-                    await client.close(self.patience)
+                    await client.closed(self.patience)
             if self.is_ending:
                 self.run.end_clients()
 
@@ -130,7 +130,7 @@ class Service:
             await self.leave(run, left)
         else:
             self.over.set()
-            await asyncio.gather(*(client.close(self.patience) for client in left))
+            await asyncio.gather(*(client.closed(self.patience) for client in left))
         return status
 
     async def leave(self, run, clients):
@@ -142,7 +142,7 @@ class Service:
             client.was_left = not run.has_accepted
         if staying:
             note(f"{len(staying)} clients are closed: no guest accepts them at port {', '.join(sorted({str(client.port) for client in staying}))}")
-        await asyncio.gather(self.come(*going), *(client.close(self.patience) for client in staying))
+        await asyncio.gather(self.come(*going), *(client.closed(self.patience) for client in staying))
 
     async def begin_anew(self):
         """Clients come to a new run from now on, with the files of the command line as they are now; where none can begin, to this one still."""

@@ -21,6 +21,8 @@ MOST_WAITING = 262_144
 PIPE = 65_536
 # Bytes of a client that are taken at once; connections that wait to be taken; and seconds until one is tried again that couldn't be.
 MOST_TAKEN, BACKLOG, RETRY = 64_000, 100, 1
+# What accept4(2) makes of a connection.
+ACCEPTED = int(socket.SOCK_NONBLOCK | socket.SOCK_CLOEXEC)
 libc = ctypes.CDLL(None, use_errno=True)
 # Seconds in which what was written is taken at the end, where clients may be silent as long as they like.
 PATIENCE = 10
@@ -43,17 +45,18 @@ def keep_standard_streams():
 class Outlet:
     """A descriptor that is written. What is written in one turn of the loop goes together, at its end; the rest as it is taken; and nothing once nobody takes it."""
 
+    is_lost = False
+    when_sent = None  # what is done once all is sent
+
     def __init__(self, number, loop):
         self.number, self.poller = number, loop.poller
         self.unsent = bytearray()
-        self.is_lost = False
-        self.when_sent = None  # what is done once all is sent
 
     def write(self, piece):
         if self.is_lost:
             return
         if not self.unsent:
-            self.poller.last.append(self.send_first)
+            self.poller.last.append(self)
         self.unsent += piece
 
     def send_first(self):
@@ -86,20 +89,23 @@ class Outlet:
 class Client(Outlet):
     """A connection, and the guest's port that it is for. It is heard once a run has accepted it: what it sends before that stays where it is."""
 
+    heed = None  # what is done with what comes
+    closing = None  # what closes it where not all is sent in time
+    was_left = False  # by a run that accepted nobody
+    is_gone = False
+    gone = None  # a future of those who wait for that
+
     def __init__(self, number, port, counts, loop):
         super().__init__(number, loop)
         self.port, self.counts, self.loop = port, counts, loop
-        self.heed = None  # what is done with what comes
-        self.closing = None  # what closes it where not all is sent in time
-        self.was_left = False  # by a run that accepted nobody
-        self.gone = loop.create_future()
         counts.connections += 1
 
     def hear(self, heed):
         """From now on this is done with what comes, and with nothing at the end."""
         self.heed = heed
-        self.poller.read(self.number, self.take)
-        self.take()  # (most have sent something by now)
+        self.poller.read_late(self.number, self.take)
+        if not self.take():  # (most have sent something by now)
+            self.poller.read(self.number, self.take)
 
     def rest(self):
         """It isn't heard for a time, or any more."""
@@ -108,24 +114,32 @@ class Client(Outlet):
             self.poller.read(self.number, None)
 
     def take(self):
+        """Takes what there is. Whether there is anything, or the end."""
         try:
             piece = os.read(self.number, MOST_TAKEN)
         except BlockingIOError:
-            return
+            return False
         except OSError:
             piece = b""
         self.heed(piece)
+        return True
 
     def close(self, patience):
-        """Closes the connection once all is sent, or after so many seconds. It is gone then."""
-        self.rest()
+        """Closes the connection once all is sent, or after so many seconds. It is gone then. Whether it is gone now."""
         self.send()
         if self.unsent:
+            self.rest()
+            self.gone = self.gone or self.loop.create_future()
             self.when_sent = self.shut
             self.closing = self.loop.call_later(patience, self.shut)
         else:
             self.shut()
-        return self.gone
+        return self.is_gone
+
+    async def closed(self, patience):
+        """As `close`, until it is gone."""
+        if not self.close(patience):
+            await self.gone
 
     async def cut(self, patience):
         """Resets the connection once the client has all that was sent, or closes it after so many seconds. So a client can tell an answer that was cut from one that ended."""
@@ -136,7 +150,7 @@ class Client(Outlet):
         self.shut()
 
     async def until_sent(self):
-        while not self.gone.done() and (self.unsent or any(fcntl.ioctl(self.number, termios.TIOCOUTQ, bytes(4)))):
+        while not self.is_gone and (self.unsent or any(fcntl.ioctl(self.number, termios.TIOCOUTQ, bytes(4)))):
             await asyncio.sleep(0.01)
 
     def reset(self):
@@ -147,26 +161,28 @@ class Client(Outlet):
 
     def linger_not(self):
         """Its end, where it isn't gone, will be a reset."""
-        if not self.gone.done():
+        if not self.is_gone:
             with socket.socket(fileno=os.dup(self.number)) as connection:
                 connection.setsockopt(socket.SOL_SOCKET, socket.SO_LINGER, struct.pack("ii", 1, 0))
 
     def shut(self):
-        if self.gone.done():
+        if self.is_gone:
             return
-        self.rest()
+        self.is_gone = True
+        self.heed = self.when_sent = None
         if self.closing:
             self.closing.cancel()
-        self.poller.write(self.number, None)
+        self.poller.forget(self.number)
         self.lose()
         os.close(self.number)
         self.counts.connections -= 1
-        self.gone.set_result(None)
+        if self.gone:
+            self.gone.set_result(None)
 
 
 def accept(listener):
     """The number of the next connection, as accept4(2) has it. The method `accept` of a socket makes a socket of it, which asks the system what it is."""
-    number = libc.accept4(listener, None, None, socket.SOCK_NONBLOCK | socket.SOCK_CLOEXEC)
+    number = libc.accept4(listener, None, None, ACCEPTED)
     if number < 0:
         fault = ctypes.get_errno()
         raise OSError(fault, os.strerror(fault))
@@ -228,9 +244,12 @@ class Lines:
             piece = os.read(self.reader, PIPE)
         except BlockingIOError:
             return
-        lines, newline, self.rest = (self.rest + piece).rpartition(b"\n")
-        if newline or not piece:
-            heed(lines + newline)
+        if self.rest or not piece.endswith(b"\n"):
+            lines, newline, self.rest = (self.rest + piece).rpartition(b"\n")
+            if piece and not newline:
+                return
+            piece = lines + newline
+        heed(piece)
 
     def close(self):
         poller().read(self.reader, None)
