@@ -1,5 +1,4 @@
 """What the operator's machines read: counts of a service in Prometheus' text exposition format, and as one line."""
-import collections
 import dataclasses
 import os
 import time
@@ -15,8 +14,8 @@ class Counts:
 
     begun: float = dataclasses.field(default_factory=time.monotonic)
     connections: int = 0  # that are open
-    came: collections.Counter = dataclasses.field(default_factory=collections.Counter)  # lines by their first word
-    said: collections.Counter = dataclasses.field(default_factory=collections.Counter)
+    came: dict[str, int] = dataclasses.field(default_factory=lambda: dict.fromkeys(ARRIVALS, 0))  # lines by their first word
+    said: dict[str, int] = dataclasses.field(default_factory=lambda: dict.fromkeys(SAID, 0))
     received: int = 0  # bytes of clients
     sent: int = 0  # bytes to clients
     restarts: int = 0
@@ -96,7 +95,7 @@ def exposition(run, counts):
 def line(run, counts):
     """The same in short."""
     numbers = {
-        "uptime": f"{counts.uptime():.0f}", "connections": counts.connections, "clients": counts.came["connect"], "came": counts.came.total(), "said": counts.said.total(),
+        "uptime": f"{counts.uptime():.0f}", "connections": counts.connections, "clients": counts.came["connect"], "came": sum(counts.came.values()), "said": sum(counts.said.values()),
         "received": counts.received, "sent": counts.sent, "restarts": counts.restarts, "memory": memory_of(run.serving.process.pid) or 0}
     roles = run.serving.transcript.roles(len(run.serving.versions))
     leads = next((str(version) for version, role in zip(run.serving.versions, roles) if role == "leads"), "-")

@@ -80,10 +80,12 @@ class Run:
         task.add_done_callback(tasks.discard)
 
     def hear(self, process, lines):
-        """Takes lines that a process says, to its end, or until another one serves in its place."""
+        """Takes lines that a process says, to its end, or until another one serves in its place. What it wrote before an answer is in its transcript before the client has that;
+        that it accepts a client is no answer."""
         is_over = not lines
         try:
-            process.written.take()
+            if not lines.startswith(b"accept ") or lines.count(b"\n") > 1:
+                process.written.take()
             if lines and process in (self.serving, self.joining):
                 self.take(process, lines)
         except Exception as fault:  # whatever it is: what the process says next is worth nothing
@@ -107,8 +109,9 @@ class Run:
 
     def take(self, process, lines):
         """Lines that a process says: they were said before, or are said now, or are ahead of the process that serves."""
-        size = max(min(len(lines), self.said.size - process.heard), 0)
-        if size:
+        size = 0
+        if process.heard < self.said.size:
+            size = min(len(lines), self.said.size - process.heard)
             self.compare(process, lines, size)
         if process is self.serving:
             self.say(lines[size:])
@@ -116,7 +119,8 @@ class Run:
             process.ahead += lines[size:]
         process.heard += len(lines)
         process.heard_lines += lines.count(b"\n")
-        self.look(process)
+        if process.is_behind:
+            self.look(process)
 
     def compare(self, process, lines, size):
         """So much of these lines was said before."""
@@ -130,10 +134,12 @@ class Run:
 
     def say(self, lines):
         """This is what the guests say next."""
+        if not lines:
+            return
         if self.joining and self.joining.ahead:
             self.joining.compare_ahead(lines)
-        for line in lines.decode().splitlines():
-            self.do(*line.split())
+        for line in lines.decode()[:-1].split("\n"):
+            self.do(*line.split(" "))
         self.said.add(lines)
 
     def is_there(self, process):
@@ -245,17 +251,21 @@ class Run:
 
     # ---- clients
 
-    def tell(self, *lines):
-        """Tells what came, and before it the time, unless that was told less than a step ago. A host's clock that is set back tells no time until it is later again."""
-        now = min(time.time_ns(), MOST_TIME)
+    def tell(self, word, lines, count=1):
+        """Tells so many lines of this word, and before them the time, unless that was told less than a step ago. A host's clock that is set back tells no time until it is later again."""
+        now = time.time_ns()
+        if now > MOST_TIME:
+            now = MOST_TIME
         if now - self.time >= TIME_STEP:
-            lines = self.line_of(now), *lines
-        self.tell_lines(*lines)
+            lines = self.line_of(now) + lines
+        self.counts.came[word] += count
+        self.tell_lines(lines)
 
     def line_of(self, now):
         """The line that tells this time."""
         self.time = now
-        return f"time {now // SECOND} {now % SECOND}"
+        self.counts.came["time"] += 1
+        return f"time {now // SECOND} {now % SECOND}\n"
 
     def wait(self, process):
         """A call of the process waits up to a time, which is told then: also where the host's clock is set back meanwhile. One that was told later ends the wait once the process takes it:
@@ -272,14 +282,13 @@ class Run:
         if self.timer is not None:
             self.timer.cancel()
 
-    def tell_lines(self, *lines):
+    def tell_lines(self, lines):
         """Tells lines, and before them the ends of clients that the guests have closed since the ones before: no call waits for these."""
         if self.closed:
-            lines = *(f"end {number}" for number in self.closed), *lines
+            lines = "".join([f"end {number}\n" for number in self.closed]) + lines
+            self.counts.came["end"] += len(self.closed)
             self.closed.clear()
-        for line in lines:
-            self.counts.came[line.partition(" ")[0]] += 1
-        piece = "\n".join([*lines, ""]).encode()
+        piece = lines.encode()
         self.told.add(piece)
         self.serving.tell(piece, self.told)
         if self.joining:
@@ -293,12 +302,12 @@ class Run:
     def connect(self, client):
         self.waiting[self.count] = client
         self.count += 1
-        self.tell(f"connect {client.port}")
+        self.tell("connect", f"connect {client.port}\n")
 
     def end_clients(self):
         if self.takes:
             self.takes, self.is_asked_to_end = False, True
-            self.tell("end clients")
+            self.tell("end", "end clients\n")
 
     def accept(self, number):
         self.accepts = number + 1
@@ -318,7 +327,8 @@ class Run:
             return
         self.silences.hear(number)
         self.counts.received += len(piece)
-        self.tell(*(f"data {number} {piece[at : at + MOST_BYTES].hex()}" for at in range(0, len(piece), MOST_BYTES)))
+        lines = [f"data {number} {piece[at : at + MOST_BYTES].hex()}\n" for at in range(0, len(piece), MOST_BYTES)]
+        self.tell("data", "".join(lines), len(lines))
         if self.serving.is_full():
             client.rest()
             self.work(self.hear_later(number, client), self.tasks)
@@ -332,7 +342,7 @@ class Run:
         """A client has sent all."""
         client.rest()
         if self.silences.end(number):
-            self.tell(f"end {number}")
+            self.tell("end", f"end {number}\n")
 
     def end_silent(self, number):
         """A client was silent too long, and so has sent all. Where clients may be silent, none may any more once no more come."""
@@ -413,6 +423,7 @@ class Run:
             self.told.write()
             self.said.write()
             process, accepts = self.serving, self.accepts
+            process.written.take()  # (`accept` may have been heard before)
             self.tell_news(process)
             if not self.has_caught_up(process):
                 if process.is_behind:

@@ -39,9 +39,10 @@ class Written:
 
     def take_piece(self):
         """Whether there was a piece; there is none at the end."""
-        piece = os.read(self.reader, PIPE)
-        whole, newline, self.rest = (self.rest + piece).rpartition(b"\n")
-        text = whole + newline
+        text = piece = os.read(self.reader, PIPE)
+        if self.rest or not piece.endswith(b"\n"):
+            whole, newline, self.rest = (self.rest + piece).rpartition(b"\n")
+            text = whole + newline
         waits = WAIT.findall(text) if b"# wait " in text else ()
         self.write(WAIT.sub(b"", text) if waits else text)
         if waits:
