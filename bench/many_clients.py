@@ -1,19 +1,19 @@
 #!/usr/bin/env python3
 """How soon clients are answered that are there at once, beside many that are silent, and across a failover.
 
-    bench/many_clients.py [--program PATH] [--turns N]
+    bench/many_clients.py [--program PATH] [--turns N] [answers] [failovers]
 
-PATH is crates/varan/out/varan where it isn't given (build it first: `rt run` in crates/varan). The service is examples/live/loop.c, one loop over poll, behind `varan-listen --idle 0`,
-with 1, 2 and 8 equal versions, and the same loop over select. Beside it are the same guests under qemu-riscv32, and varan-listen before a program that sends back what it gets
-(live_answers.c). All is taken in one run, on 127.0.0.1, each case with and without the silent ones, in N turns, 5 by default, every other one in reverse. It needs qemu-riscv32 (Debian:
-qemu-user) and cc, and takes some minutes.
+Without a part both are taken. PATH is crates/varan/out/varan where it isn't given (build it first: `rt run` in crates/varan). The service is examples/live/loop.c, one
+loop over poll, behind `varan-listen --idle 0`, with 1, 2 and 8 equal versions, and the same loop over select. Beside it are the same guests under qemu-riscv32, and
+varan-listen before a program that sends back what it gets (live_answers.c). All is taken in one run, on 127.0.0.1, each case with and without the silent ones, in N
+turns, 5 by default, every other one in reverse. It needs qemu-riscv32 (Debian: qemu-user) and cc, and takes some minutes.
 
 50 clients ask, with and without 900 that ask once as they come and are silent then. It isn't 1,000 of which 900 are silent, since a guest has 960 sockets at most.
 
 - An answer: from sending a line to its answer, while each client pauses up to 0.1 seconds between an answer and its next line.
 - Answers a second: each client asks again as soon as it has its answer. The clients are one thread of this script, which bounds what qemu can show.
 - A failover: version 2 of the service leads version 1 before all 950 clients, 4 times a turn. The 50 ask at once: as it is, with a line among theirs at which the leader faults, and once
-  more, when version 1 is alone. Then all 950 ask: who has no answer is lost.
+  more, when version 1 is alone. Then all 950 ask: who has no answer is lost. What a fault costs is the difference of two figures of one failover.
 
 Figures are medians of the turns, and so are ratios, each of two figures of one turn; those of failovers are medians of all. Each answer is checked, the count of the requests, and how each
 service ends. Status 1: something is otherwise, or a client is lost.
@@ -21,6 +21,7 @@ service ends. Status 1: something is otherwise, or a client is lost.
 import argparse
 import contextlib
 import heapq
+import math
 import os
 import pathlib
 import random
@@ -43,10 +44,13 @@ COUNTS = (1, 2, 8)
 LOOPS = {"": "loop_1", ", select": "loop_select"}
 ACTIVE, SILENT = 50, 900
 # Seconds in which clients ask, with so much pause at most and with none; failovers in a turn, and how often all ask before each.
-PACED, PAUSE, AT_ONCE, FAILOVERS, BEFORE = 1.0, 0.1, 0.5, 4, 3
+PACED, PAUSE, AT_ONCE, FAILOVERS, BEFORE = 2.0, 0.1, 0.5, 4, 3
+# The least answers with a pause: ten of them take longer than p99.
+FEWEST = 1000
 SECONDS = 60
 MOST_OPEN = 4096
 ALONE, QEMU = "varan-listen alone", "qemu"
+PARTS = ("answers", "failovers")
 
 
 class Wrong(Exception):
@@ -245,14 +249,16 @@ def served(name, command, silent, folder):
 
 
 def hundredth(waits, number):
-    """In milliseconds."""
-    return 1000 * sorted(waits)[number * (len(waits) - 1) // 100]
+    """The shortest wait, in milliseconds, that at least so many hundredths don't exceed."""
+    return 1000 * sorted(waits)[math.ceil(number * len(waits) / 100) - 1]
 
 
 def measured(name, command, silent, folder):
     """The median wait and p99 of clients that pause, and the answers a second of those that don't."""
     with served(name, command, silent, folder) as clients:
-        waits, _ = clients.talk(PACED, PAUSE)
+        waits = []
+        while len(waits) < FEWEST:
+            waits += clients.talk(PACED, PAUSE)[0]
         _, rate = clients.talk(AT_ONCE, 0)
     return hundredth(waits, 50), hundredth(waits, 99), rate
 
@@ -320,10 +326,11 @@ def failover(command, folder):
 
 
 def failovers(command, count, folder):
-    found = list(zip(*(failover(command, folder) for _ in range(count))))
+    before, across, after = ([[hundredth(it, number) for number in (50, 95, 100)] for it in waits] for waits in zip(*(failover(command, folder) for _ in range(count))))
+    costs = [[one - other for one, other in zip(*pair)] for pair in zip(across, before)]
     table(f"{ACTIVE} clients that ask at once, beside {SILENT}, ms", ["p50", "p95", "longest", "longest of all"], {
-        name: [f"{statistics.median(hundredth(it, number) for it in waits):.2f}" for number in (50, 95, 100)] + [f"{max(hundredth(it, 100) for it in waits):.2f}"]
-        for name, waits in zip(("as it is", "the leader faults at a line among theirs", "once more"), found)
+        name: [f"{statistics.median(column):.2f}" for column in zip(*waits)] + [f"{max(it[-1] for it in waits):.2f}"]
+        for name, waits in (("as it is", before), ("the leader faults at a line among theirs", across), ("once more", after), ("what the fault costs", costs))
     })
     print(f"\n{count} failovers with {ACTIVE + SILENT} connections each; 0 are lost")
 
@@ -338,11 +345,15 @@ def main():
     reader = argparse.ArgumentParser(description="how soon many clients at once are answered")
     reader.add_argument("--program", default=str(TOP / "crates/varan/out/varan"))
     reader.add_argument("--turns", type=int, default=5)
+    reader.add_argument("part", nargs="*", help=", ".join(PARTS))
     asked = reader.parse_args()
+    parts = asked.part or PARTS
+    if unknown := [part for part in parts if part not in PARTS]:
+        reader.error(f"no such part: {unknown[0]}")
     begun, (taken, all_times) = time.monotonic(), processor_times()
     # each client takes a descriptor of this script and one of varan-listen
     resource.setrlimit(resource.RLIMIT_NOFILE, (MOST_OPEN, MOST_OPEN))
-    print(f"{asked.turns} turns, load {os.getloadavg()[0]:.1f}")
+    print(f"{asked.program}, {asked.turns} turns, {os.cpu_count()} processors, load {os.getloadavg()[0]:.1f}")
     with tempfile.TemporaryDirectory() as room:
         folder = pathlib.Path(room)
         (folder / "setup").write_text(f"varan-script 5\nclock {int(time.time())} 0 0\narg {PATIENCE}\n")
@@ -354,8 +365,10 @@ def main():
         if not can_listen(PORT):
             print(f"qemu is left out: somebody listens at port {PORT}")
             commands = {name: words for name, words in commands.items() if not name.startswith(QEMU)}
-        answers(commands, asked.turns, folder)
-        failovers([*serve, BUILT / "loop_2", BUILT / "loop_1"], FAILOVERS * asked.turns, folder)
+        if "answers" in parts:
+            answers(commands, asked.turns, folder)
+        if "failovers" in parts:
+            failovers([*serve, BUILT / "loop_2", BUILT / "loop_1"], FAILOVERS * asked.turns, folder)
     taken, all_times = (after - before for after, before in zip(processor_times(), (taken, all_times)))
     print(f"\n{time.monotonic() - begun:.0f} seconds, in which the host took {100 * taken / all_times:.1f}% of the processors' time away; load {os.getloadavg()[0]:.1f} at the end")
 
