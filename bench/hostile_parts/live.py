@@ -1,5 +1,6 @@
 """Live runs: broken lines of clients, input that ends early, streams that are closed, full or not for it, calls of the C library that fail, and clients that leave.
 
+One of the services makes polls that Linux refuses, with lists that can't be read, times that are none and too many descriptors, before each of its waits.
 Whatever happens, what a run took is the beginning of what was sent, as a reader of the form reads it; and where the run began, `run` takes its transcript, up
 to the last newline, and comes to the events that the live run told.
 """
@@ -15,6 +16,7 @@ import time
 
 from hostile_parts.broken import damaged_text
 from hostile_parts.failing import WANTING
+from hostile_parts.guests import polls
 from hostile_parts.program import CLOCK, TOP, is_refusal, is_small, write
 from hostile_parts.readers import MOST_CLIENTS, Refused, Wrong, read_arrival, read_arrivals, read_report
 
@@ -22,6 +24,8 @@ EXAMPLES = os.path.join(TOP, "examples")
 GUESTS, SERVERS = os.path.join(EXAMPLES, "guests", "built"), os.path.join(EXAMPLES, "server", "built")
 SERVICE, BROKEN_SERVICE = [os.path.join(GUESTS, "service_1")], [os.path.join(GUESTS, "service_2"), os.path.join(GUESTS, "service_1")]
 LOOPS, SELECTS = ([os.path.join(EXAMPLES, "live", "built", name) for name in names] for names in (("loop_2", "loop_1"), ("loop_select", "loop_select")))
+# Made by the program's assembler: loops between whose waits are polls of every kind that Linux refuses. The first breaks at a client's "x".
+POLL_LOOPS = {"polls_2": polls(ord("x")), "polls_1": polls(256)}
 SERVER, BROKEN_SERVER = [os.path.join(SERVERS, "server_1")], [os.path.join(SERVERS, "server_2"), os.path.join(SERVERS, "server_1")]
 SETUP = b"varan-script 4\nfile index.html 68690a\n"
 PORT = 8080
@@ -34,6 +38,10 @@ CLIENTS = b"# two clients\nconnect 8080\ntime 4294967295 999999999\ndata 0 %s\ne
 INPUT = b"line put a b\ninput 67657420\ntime 7 8\ninput 610a\n#\nline drop a\nline get a\nend input\n"
 # Two clients of a server with one loop: each wait of the loop may end with what either sends, with the time or with the end.
 POLLED = b"connect 8080\nconnect 8080\ndata 1 %s\ntime 2 0\ndata 0 %s\ntime 1 5\nend 1\ntime 90 0\ndata 0 0A\nend 0\nend clients\n" % (b"put a b\nget".hex().encode(), b"drop a\nsize".hex().encode())
+# The same of the loops of polls, which also take lines; client 1 says "x".
+HARD_POLLED = (
+    b"connect 8080\nline a\nconnect 8080\ndata 1 78\ntime 2 0\ndata 0 00FF\ntime 1 5\nend 1\ninput 0A\ntime 90 0\nend input\ndata 0 0A\nend 0\nend clients\n"
+)
 LINES = b"put a b\nget a\n\x00\xff\ndrop a\nget a\nget a"
 
 # Of a line that the end of input came within.
@@ -66,7 +74,8 @@ BY_LINES = Case(["--clients"], BROKEN_SERVICE, INPUT)
 BY_CLIENTS = Case(["--clients", "--script", "s"], BROKEN_SERVER, CLIENTS)
 BY_LOOP = Case(["--clients", "--script", "s"], LOOPS, POLLED)
 BY_SELECT = Case(["--clients", "--script", "s"], SELECTS, POLLED)
-CASES = (PLAIN, BY_LINES, BY_CLIENTS, BY_LOOP, BY_SELECT)
+BY_HARD_POLLS = Case(["--clients", "--script", "s"], list(POLL_LOOPS), HARD_POLLED)
+CASES = (PLAIN, BY_LINES, BY_CLIENTS, BY_LOOP, BY_SELECT, BY_HARD_POLLS)
 
 
 def transcript_in(told):
@@ -148,6 +157,8 @@ class Live:
             raise Wrong(f"run on the transcript: {answer.status}, {answer.text[:80]!r}")
         events, fates = lines_of_report(answer.text)
         found = events_told(transcript)
+        if any(b"fault breakpoint" in fate for fate in fates) or b"fault breakpoint" in told:
+            raise Wrong("a loop of polls got another answer")
         if compared is ALL and (found, fates_told(transcript)) != (events, fates) or compared is SOME and not is_within(found, events):
             raise Wrong("run on the transcript comes to other events or fates")
 
@@ -340,7 +351,11 @@ class Live:
     def run(self):
         subprocess.run(["cc", "-O2", "-shared", "-fPIC", "-o", self.shim, os.path.join(TOP, "bench", "hostile_parts", "failing.c")], check=True)
         write("s", SETUP)
-        for kind, case in (("lines", PLAIN), ("lines of --clients", BY_LINES), ("clients", BY_CLIENTS), ("clients of a loop", BY_LOOP), ("clients of a loop over select", BY_SELECT)):
+        for name, text in POLL_LOOPS.items():
+            write("text", text)
+            write(name, self.program.run(["asm", "text"]).text)
+        kinds = ("lines", "lines of --clients", "clients", "clients of a loop", "clients of a loop over select", "clients of a loop of refused polls")
+        for kind, case in zip(kinds, CASES, strict=True):
             for content in damaged_text(case.sent):
                 self.broken(kind, case, content)
         self.many()
