@@ -246,6 +246,22 @@ END
     is "$(fates_of "$work/told")" $'0 fault breakpoint 100\n1 exited 0' "the fates of an update with last words"
 }
 
+# a_failed_stream STATUS LINE: standard input or output failed; the service ended with this status, and told the operator this.
+a_failed_stream() {
+    is "$status" "$1" "the status of a stream that fails"
+    is "$(grep '^# varan: ' "$work/transcript")" "# varan: $2" "why a service ended"
+}
+
+# failed_streams: standard input can't be read, as it is a folder, or standard output can't be written.
+failed_streams() {
+    local status=0
+    "$program" serve "$old_service" <"$work" >"$work/console" 2>"$work/transcript" || status=$?
+    a_failed_stream 5 "read standard input"
+    status=0
+    "$program" serve "$old_service" <"$work/lines" >/dev/full 2>"$work/transcript" || status=$?
+    a_failed_stream 6 "write standard output"
+}
+
 plain() {
     sed -n 's/^line //p' "$guests/scripts/service" >"$work/lines"
     # a run, with its transcript and its status in files of their own
@@ -258,6 +274,7 @@ END
     in_a_pipe
     comments
     last_words
+    failed_streams
     # the page's commands
     rows=$((rows + 1))
     "$here/../follow.py" "$here/../../docs/LIVE.md" "$program" || wrong=$((wrong + 1))

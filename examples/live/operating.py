@@ -992,6 +992,23 @@ def unread_console(rows, program):
     os.close(reader)
 
 
+def whole_lines(rows, program):
+    """Each line of the transcript and of what is said is one write, so that no comment cuts it: a message of a socket that keeps writes apart."""
+    said, noted = (socket.socketpair(socket.AF_UNIX, socket.SOCK_SEQPACKET) for _ in range(2))
+    lines = ["connect 8080", f"data 0 {f'put a {LONG}'.encode().hex()}0a", f"data 0 {b'get a'.hex()}0a", "end 0", "end clients"]
+    with subprocess.Popen([program, "serve", "--clients", "--log", KEEPER[1]], stdin=subprocess.PIPE, stdout=said[1], stderr=noted[1], text=True) as service:
+        started.append(service)
+        said[1].close()
+        noted[1].close()
+        service.communicate("".join(f"{line}\n" for line in lines), SECONDS)
+    answers = ["accept 0", f"data 0 {b'kept'.hex()}0a", f"data 0 {LONG.encode().hex()}0a", "close 0"]
+    for name, ours, wanted in (("what is said", said[0], answers), ("the transcript", noted[0], ["varan-script 5", *lines])):
+        with ours:
+            writes = [it.decode() for it in iter(lambda ours=ours: ours.recv(65536), b"")]
+        rows.same([it for it in writes if not it.startswith("# ")], [f"{it}\n" for it in wanted], f"the writes of {name}")
+        rows.holds(all(it.endswith("\n") for it in writes), f"each comment of {name} is one write", writes)
+
+
 def made_folder(rows, program):
     """The folder of transcripts is made, for this user alone; what is no folder is named."""
     folder = pathlib.Path(tempfile.mkdtemp(dir=Service.room))
@@ -1060,7 +1077,7 @@ def received(client):
 
 
 started = []
-TRIED = (joining, silent_client, handing, falling_back, wrong_answer, breaking_and_leaving, letting_go, failing, reloading, permitted, told_metrics, killed_command, killed_all, resuming, left_copies, real_time, one_loop, loop_over_select, crowded, thread_for_each, nearly_all_clients, unheard_port, closed_console, unread_console, made_folder, full_transcript, cut_answers)
+TRIED = (joining, silent_client, handing, falling_back, wrong_answer, breaking_and_leaving, letting_go, failing, reloading, permitted, told_metrics, killed_command, killed_all, resuming, left_copies, real_time, one_loop, loop_over_select, crowded, thread_for_each, nearly_all_clients, unheard_port, closed_console, unread_console, whole_lines, made_folder, full_transcript, cut_answers)
 
 
 def main():
