@@ -246,6 +246,14 @@ END
     is "$(fates_of "$work/told")" $'0 fault breakpoint 100\n1 exited 0' "the fates of an update with last words"
 }
 
+# long_event: an event with as many bytes as a call has at most is told as well.
+long_event() {
+    printf '%s\n' "la a1, room" "li a0, 1" "li a2, 4096" "li a7, 64" ecall "li a0, 0" "li a7, 94" ecall .data "room: .zero 4096" >"$work/long.s"
+    "$program" asm "$work/long.s" >"$work/long"
+    "$program" serve --log "$work/long" </dev/null 2>"$work/transcript" >"$work/console" || bad "a service with a long event"
+    is "$(grep '^# 0 ' "$work/transcript")" "# 0 100 64 1 0 4096 0 0 0 = 4096 : $(printf '0%.0s' {1..8192})" "a long event"
+}
+
 # a_failed_stream STATUS LINE: standard input or output failed; the service ended with this status, and told the operator this.
 a_failed_stream() {
     is "$status" "$1" "the status of a stream that fails"
@@ -274,6 +282,7 @@ END
     in_a_pipe
     comments
     last_words
+    long_event
     failed_streams
     # the page's commands
     rows=$((rows + 1))
