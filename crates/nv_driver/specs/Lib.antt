@@ -14,4 +14,5 @@ pub mod Tasks
 pub mod Ran
 pub mod Refusals
 pub mod Untraced
+pub mod Comments
 pub mod inner

@@ -1,10 +1,12 @@
 //! The driver of the commands: what each owes (specs/Due), its files read and refused, and the commands that need no other threads.
-//! Types: `Task`, `Prepared`, `LivePrepared`, `Refusal`, `Place`, `Cause`, `Ending`; function `answer_alone`.
+//! Types: `Task`, `Prepared`, `LivePrepared`, `Refusal`, `Place`, `Cause`, `Ending`, `Comment`, `Commented`; functions `answer_alone`, `put_comment`.
 //! Proved: the first file in order that can't be read or is refused is named; `asm`, `rules`, `replay`, `inspect`, `usage` and
-//! refused words are answered as they are owed, without waiting; each ending says its text with its status.
+//! refused words are answered as they are owed, without waiting; each ending says its text with its status; each comment on a live run is its line.
 #![tactic(auto)]
 
 mod answering;
+mod commented;
+mod comments;
 mod ending;
 mod endings;
 mod generating;
@@ -20,6 +22,8 @@ mod tools;
 mod trails;
 
 pub use answering::{answer_alone, refuse_words};
+pub use commented::Commented;
+pub use comments::{Comment, comment_line, put_comment};
 pub use ending::{Ending, ending_status, how_ended};
 pub use endings::{
     INPUT, MEMORY, READ_FAULT, USAGE, WRITE_FAULT, count_exited, ended, put_line, starved, status,

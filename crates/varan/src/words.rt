@@ -1,6 +1,7 @@
 // The words of the command line.
-use crate::notes::{Telling, Wishes};
+use crate::notes::Wishes;
 use nv_command::{Command, LineFault, Name, Service};
+use nv_driver::Commented;
 use std::{env, io};
 
 // Arguments are refused where one of them isn't text.
@@ -32,19 +33,19 @@ pub fn is_service(words: &Result<Vec<String>, LineFault>) -> bool {
 
 // What no other command than `serve` asks for.
 const NO_WISHES: Wishes = Wishes {
-    telling: Telling::Nothing,
+    commented: Commented::Nothing,
     patience: None,
 };
 
 fn wished_of(service: &Service<'_>) -> Wishes {
-    let calls = service.limits.calls;
-    let telling = if service.log {
-        Telling::Events(calls)
+    let most = service.limits.calls;
+    let commented = if service.log {
+        Commented::Events { most }
     } else {
-        Telling::Ends(calls)
+        Commented::Ends { most }
     };
     Wishes {
-        telling,
+        commented,
         patience: service.patience,
     }
 }
