@@ -10,11 +10,11 @@ ghost use Rattle.nv_kernel.specs.Answering.{MayCome, IsAnswer};
 ghost use Rattle.nv_kernel.specs.Reserved.{most_out};
 ghost use Rattle.nv_sockets.specs.Views.{link_of, gone_of};
 ghost use Rattle.nv_arrivals.specs.Views.{view as arrival_of};
-ghost use Rattle.nv_arriving.specs.Arriving.{start_of_arrivals};
+ghost use Rattle.nv_arriving.specs.Arriving.{first_standing, start_of_arrivals};
 ghost use Rattle.nv_arriving.specs.Kernel.{CanServe, KeepsOn, begun_in};
 ghost use Rattle.nv_arriving.specs.Reserved.{IsKept};
 ghost use Rattle.nv_arriving.specs.Standing.{StandsAt};
-ghost use Rattle.nv_arriving.specs.Views.{standing_of};
+ghost use Rattle.nv_arriving.specs.Views.{standing_of, room_of};
 
 use crate::arrivals::{learn, rest};
 use crate::guests::GuestSide;
@@ -117,8 +117,25 @@ impl<O: Outside> Guests<O> {
         ensures kept { IfOk result (λ made. (made.keeps ≡ keeps) × IsKept made.room) }
     {
         let side = GuestSide::make(alloc, script)?;
+        Ok(Guests::from_side(alloc, script, side, outside, keeps))
+    }
+
+    // The same over the guests' side as a script gives it.
+    pub(crate) fn from_side(
+        alloc: Global,
+        script: &Script,
+        side: GuestSide,
+        outside: O,
+        keeps: bool,
+    ) -> Guests<O>
+        requires first { standing_of side ≡ first_standing (setup_of script.now) }
+        requires kept { IsKept (room_of side) }
+        ensures stands { StandsAt O.did O.is_over result (setup_of script.now) [] }
+        ensures made { (result.came ≡ []) × (result.begun ≡ outside) × (result.outside ≡ outside) × (result.late ≡ false) }
+        ensures kept { (result.keeps ≡ keeps) × IsKept result.room }
+    {
         let begun = Snapshot::of(&outside);
-        Ok(Guests {
+        Guests {
             alloc,
             side,
             begun,
@@ -129,7 +146,7 @@ impl<O: Outside> Guests<O> {
             late: false,
             over: false,
             keeps,
-        })
+        }
     }
 
     /// The connections, those of the script first, each with what was written to it, where all is kept.

@@ -1,5 +1,5 @@
 // The kernels over what a script lists, and over what comes from outside.
-ghost use Rattle.std.specs.Prelude.{◌≡◌, ◌⊎◌, ℕ, [], false, IsTrue, IfOk, map, slice_index};
+ghost use Rattle.std.specs.Prelude.{◌≡◌, ◌⊎◌, ℕ, [], false, IsTrue, IfOk, IfErr, map, slice_index};
 ghost use Rattle.nv_calls.specs.Logs.{calls_of, connections_of};
 ghost use Rattle.nv_script.specs.Scripts.{is_script};
 ghost use Rattle.nv_script.specs.Views.{setup_of};
@@ -10,6 +10,7 @@ ghost use Rattle.nv_arriving.specs.Standing.{StandsAt};
 ghost use Rattle.nv_arriving.specs.Telling.{Tells};
 
 use crate::answering::Guests;
+use crate::guests::GuestSide;
 use crate::scripted::Listed;
 use nv_arrivals::Outside;
 use nv_fs::FileSystem;
@@ -17,7 +18,7 @@ use nv_kernel::Kernel;
 use nv_live::Telling;
 use nv_script::Script;
 use nv_sockets::Connection;
-use std::alloc::{AllocError, Global};
+use std::alloc::Global;
 
 /// The kernel of a process with sockets, over what a script gives and what comes from outside.
 pub type ArrivingKernel<O> = Kernel<Guests<O>>;
@@ -25,17 +26,24 @@ pub type ArrivingKernel<O> = Kernel<Guests<O>>;
 /// The kernel of a process with sockets, over what a script of whatever form gives and lists.
 pub type ScriptedKernel = Kernel<Listed>;
 
-/// A kernel that has served nothing, over what the script gives and this outside.
+/// A kernel that has served nothing, over what the script gives and this outside, which comes back where memory is wanted.
 pub fn arriving<O: Outside + Telling + Send>(
     alloc: Global,
     script: &Script,
     outside: O,
-) -> Result<ArrivingKernel<O>, AllocError>
+) -> Result<ArrivingKernel<O>, O>
     requires script { IsTrue (is_script (setup_of script.now)) }
-    ensures { IfOk result (λ k. (k.log ≡ []) × (k.setup ≡ setup_of script.now) × (k.answers.came ≡ []) × (k.answers.begun ≡ outside) × (k.answers.outside ≡ outside) × (k.answers.late ≡ false)) }
+    ensures begun { IfOk result (λ k. (k.log ≡ []) × (k.setup ≡ setup_of script.now) × (k.answers.came ≡ []) × (k.answers.begun ≡ outside) × (k.answers.outside ≡ outside) × (k.answers.late ≡ false)) }
+    ensures same { IfErr result (λ given. given ≡ outside) }
 {
-    let guests = Guests::make(alloc, script, outside, false)?;
-    Kernel::over(alloc, script, guests)
+    let Ok(side) = GuestSide::make(alloc, script) else {
+        return Err(outside);
+    };
+    let guests = Guests::from_side(alloc, script, side, outside, false);
+    match Kernel::over(alloc, script, guests) {
+        Ok(kernel) => Ok(kernel),
+        Err(guests) => Err(guests.into_outside()),
+    }
 }
 
 /// The outside of a kernel that is done with, with what it tells: all that came was taken in its order, and all that the log says was said

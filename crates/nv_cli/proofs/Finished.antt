@@ -1,6 +1,6 @@
 -- What stands on a sink once what was held back from it is written.
 use Rattle.std.proofs.Common.{◌≡◌, ◌∙◌, ap, sym, subst, refl, ℕ, List, [], ◌++◌, append-nil, append_assoc, Option, None, Some, Ok, Err, Vec, String, arith, IsOk, IsErr}
-use Rattle.std.specs.Prelude.{IfOk, option_map}
+use Rattle.std.specs.Prelude.{IfOk}
 use Rattle.std.specs.Global.{Global}
 use Rattle.nv_outside.specs.Counts.{Rose}
 use Rattle.nv_outside.specs.Told.{Grows}
@@ -16,9 +16,7 @@ use Rattle.nv_driver.specs.declared.ending.Ending.TheVariants.{Finished}
 use Rattle.nv_driver.specs.Outcome.{Source, outcome_status, text_of, ended_with}
 use Rattle.nv_driver.specs.Tasks.{fault_outcome}
 use Rattle.nv_driver.proofs.Statuses.{completes-of, rejects-of, never_six}
-use Rattle.nv_live.specs.declared.streams.Streams.{Streams as Held}
 use Rattle.nv_cli.specs.Program.{Given, Begins, EndsWith, ProgramAnswers}
-use Rattle.nv_cli.specs.Streams.{left_of}
 
 -- ---- one text
 
@@ -90,7 +88,7 @@ module _ {text : List ℕ} {text_status : ℕ} {a c d : Option (List ℕ)} {held
 
 -- ---- the program
 
-module _ {words : Given} {source : Source} {streams : Streams} {left : Option (Streams × Ending)} {a c d : Option (List ℕ)} {held : List ℕ} {f g h status last_status : ℕ} where
+module _ {words : Given} {source : Source} {streams : Streams} {left : Streams × Ending} {a c d : Option (List ℕ)} {held : List ℕ} {f g h status last_status : ℕ} where
   -- the monitor's answer, and then what is held back
   pub program_finished : ProgramAnswers words source streams (with_held a []) f status (with_held c held) g left
       → (status ≡ 6 → (d ≡ c) × (h ≡ g) × (last_status ≡ 6)) → ((status ≡ 6 → ⊥) → Says held status c g last_status d h) → ProgramAnswers words source streams a f last_status d h left
@@ -104,7 +102,7 @@ module _ {words : Given} {source : Source} {streams : Streams} {left : Option (S
   }
 
 -- the monitor answers the words
-pub words_answer : {words : Given} (given : Vec (String Global) Global) {source : Source} {streams : Streams} {left : Option (Streams × Ending)} {a c : Option (List ℕ)} {f status g : ℕ} → words ≡ Ok given
+pub words_answer : {words : Given} (given : Vec (String Global) Global) {source : Source} {streams : Streams} {left : Streams × Ending} {a c : Option (List ℕ)} {f status g : ℕ} → words ≡ Ok given
     → AnswersOver (texts given.items) source streams a f status c g left → ProgramAnswers words source streams a f status c g left
 words_answer {words = words} given {source = source} {streams = streams} {left = left} {a = a} {c = c} {f = f} {status = status} {g = g} is over =
     let said = over.answers in
@@ -123,9 +121,9 @@ fault_shown line.Memory source still = still.0
 
 -- there are no words
 pub fault_answers : {words : Given} (fault : LineFault) {source : Source} (streams : Streams) {a c : Option (List ℕ)} {f status g : ℕ} → words ≡ Err fault → IsUntouched source
-    → Says (text_of (fault_outcome fault)) (outcome_status (fault_outcome fault)) a f status c g → ProgramAnswers words source streams a f status c g (Some (streams, Finished))
+    → Says (text_of (fault_outcome fault)) (outcome_status (fault_outcome fault)) a f status c g → ProgramAnswers words source streams a f status c g (streams, Finished)
 fault_answers {words = words} fault {source = source} streams {a = a} {c = c} {f = f} {status = status} {g = g} is still says =
-    subst (λ (w : Given). ProgramAnswers w source streams a f status c g (Some (streams, Finished))) (sym is) (record {
+    subst (λ (w : Given). ProgramAnswers w source streams a f status c g (streams, Finished)) (sym is) (record {
       outcome = fault_outcome fault;
       due = refl;
       shown = fault_shown fault source still;
@@ -142,18 +140,12 @@ counted_rose (Err _) f g counted failed = omega (arith, counted)
 ends_rose : {text : List ℕ} {text_status : ℕ} {a c : Option (List ℕ)} {f status g : ℕ} (e : EndsWith text text_status a f status c g) → IsErr e.put → Rose f g
 ends_rose {f = f} {g = g} e failed = counted_rose e.put f g e.counted failed
 
-pub program_completes : (words : Given) (source : Source) (streams : Streams) (left : Option (Streams × Ending)) (a c : Option (List ℕ)) (f status g : ℕ) → ProgramAnswers words source streams a f status c g left
+pub program_completes : (words : Given) (source : Source) (streams : Streams) (left : Streams × Ending) (a c : Option (List ℕ)) (f status g : ℕ) → ProgramAnswers words source streams a f status c g left
     → IfOk words (λ given. Completes (texts given.items) source f status g)
 program_completes (Ok given) source streams left a c f status g p = completes-of (texts given.items) source status p.outcome p.due p.shown p.ends.put p.ends.ends f g (ends_rose p.ends)
 program_completes (Err fault) source streams left a c f status g p = tt
 
-pub program_rejects : (words : Given) (source : Source) (streams : Streams) (left : Option (Streams × Ending)) (a c : Option (List ℕ)) (f status g : ℕ) → ProgramAnswers words source streams a f status c g left
+pub program_rejects : (words : Given) (source : Source) (streams : Streams) (left : Streams × Ending) (a c : Option (List ℕ)) (f status g : ℕ) → ProgramAnswers words source streams a f status c g left
     → IfOk words (λ given. Rejects (texts given.items) source status)
 program_rejects (Ok given) source streams left a c f status g p = rejects-of (texts given.items) source status p.outcome p.due p.shown p.ends.put p.ends.ends
 program_rejects (Err fault) source streams left a c f status g p = tt
-
--- how a live run ended is told of what is left as it is of what that tells
-module _ {I O T : Type 0} (took : I → Option (List (List ℕ))) (unread : I → ℕ) (said : O → Option (List ℕ)) (unsaid : O → ℕ) (noted : T → Option (List ℕ)) (unnoted : T → ℕ) where
-  pub endings_alike : (left : Option (Held I O T × Ending)) → option_map (λ l. l.1) left ≡ option_map (λ l. l.1) (left_of took unread said unsaid noted unnoted left)
-  endings_alike None = refl
-  endings_alike (Some l) = refl

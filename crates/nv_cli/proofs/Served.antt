@@ -19,7 +19,7 @@ use Rattle.nv_command.specs.Words.{Limits}
 use Rattle.nv_kernel.specs.Logged.{Logged}
 use Rattle.nv_live.specs.Lines.{held_text}
 use Rattle.nv_live.specs.Live.{stop_with}
-use Rattle.nv_live.specs.Run.{CameBy, said_text, DidRun, IsBegun, hands_by, input_of, output_of, line_of, held_by, stop_of_run, source_stop, IsOver}
+use Rattle.nv_live.specs.Run.{CameBy, said_text, DidRun, IsBegun, hands_by, input_of, output_of, notes_of, line_of, held_by, stop_of_run, source_stop, IsOver}
 use Rattle.nv_live.specs.Telling.{Told}
 use Rattle.nv_live.specs.Transcript.{notes_on, continued_with}
 use Rattle.nv_live.specs.Writer.{sink_in, put_of}
@@ -42,11 +42,12 @@ use Rattle.nv_script.specs.declared.fault.ScriptFault.{ScriptFault}
 use Rattle.nv_threads.specs.Threads.{Proc, threads}
 use Rattle.nv_workers.specs.Ends.{IsAccount}
 use Rattle.nv_driver.specs.Account.{process_begun, run_status}
-use Rattle.nv_driver.specs.Live.{Lived, with_arrivals, with_hands, ending_of}
+use Rattle.nv_driver.specs.Live.{Lived, Unserved, with_arrivals, with_hands, ending_of}
 use Rattle.nv_driver.specs.Refusals.{IsPlanned}
 use Rattle.nv_driver.specs.declared.ending.Ending.{Ending}
-use Rattle.nv_cli.specs.Streams.{streams_of}
-use Rattle.nv_cli.specs.inner.Serving.{IsBegunOver, RanOver, HasLeft, Served, told}
+use Rattle.nv_driver.specs.declared.ending.Ending.TheVariants.{Finished}
+use Rattle.nv_cli.specs.Streams.{streams_of, left_of}
+use Rattle.nv_cli.specs.inner.Serving.{IsBegunOver, IsUnused, RanOver, HasLeft, Served, told}
 use Rattle.nv_cli.proofs.Running.{run_of}
 
 -- what has come is no part of what a script begins with, and where leaders hand over isn't
@@ -158,7 +159,7 @@ module _ {I O T : Type 0} (took : I → Option (List (List ℕ))) (unread : I �
       → Satisfied (first_stage account.kernel.setup account.kernel.answers.came) (calls_of account.kernel.log) ⊎ IsOver account.kernel.answers.outside
       → HasLeft noted unnoted account.kernel.answers.outside after ending
       → Served limits clients setup rules machines (streams_of took unread said unsaid noted unnoted before) sink faults status sink faults
-      (Some (streams_of took unread said unsaid noted unnoted after, ending))
+      (streams_of took unread said unsaid noted unnoted after, ending)
   served_by limits clients setup head rules hands versions machines before after ending kernel account sink faults status ends are script begins none planned begun ran tells waited left =
       let k = account.kernel in
       let set : k.setup ≡ setup = ap (λ b. b.setup) ran.same ∙ begun.setup_is in
@@ -177,10 +178,79 @@ module _ {I O T : Type 0} (took : I → Option (List (List ℕ))) (unread : I �
             (ap (λ s. start_of_arrivals s k.answers.came) set ∙ begun_alike setup k.answers.came ran.account_is.asked) ran.account_is.is_account) ran.account_is.stays
             are;
         says = record { put = Ok tt; ends = ends; written = puts-none sink faults };
-        later = streams_of took unread said unsaid noted unnoted after;
-        ending = ending;
-        left_is = refl;
         lived = lived clients setup sound head begins none before after k.answers.begun k.answers.outside first ending left k.answers.came k.log k.answers.late all.0
             (subst (λ s. IsTold (DidRun took unread said unsaid noted unnoted) k.answers.begun k.answers.outside s k.answers.came k.log k.answers.late all.0) set all.1)
             (subst (λ s. Satisfied (first_stage s k.answers.came) (calls_of k.log) ⊎ IsOver k.answers.outside) set waited);
       }
+
+  -- an outside that was only begun over these streams has nothing else in its own
+  pub unused_by : (clients : Bool) (head hands : List ℕ) (streams given : Held I O T) (live : LiveRun I O T)
+      → IsBegun took unread said unsaid noted unnoted clients head hands streams (told took unread said unsaid noted unnoted live)
+      → given.input ≡ input_of live → given.output ≡ sink_in (output_of live) → given.transcript ≡ sink_in (notes_of live)
+      → IsUnused took unread said unsaid noted unnoted head streams given
+  unused_by clients head hands streams given (Plain run) b input output transcript = record {
+    read = ap took input ∙ b.read;
+    unread_is = ap unread input ∙ b.unread_is;
+    said_is = ap said output ∙ b.said_is;
+    unsaid_is = ap unsaid output ∙ b.unsaid_is;
+    text = head;
+    begins = inr refl;
+    told_so_far = run.transcript.writer.put;
+    noted_is = subst (λ sink. Puts (noted streams.transcript) (unnoted streams.transcript) head run.transcript.writer.put (noted sink) (unnoted sink)) (sym transcript) b.noted_is;
+  }
+  unused_by clients head hands streams given (Clients run) b input output transcript = record {
+    read = ap took input ∙ b.read;
+    unread_is = ap unread input ∙ b.unread_is;
+    said_is = ap said output ∙ b.said_is;
+    unsaid_is = ap unsaid output ∙ b.unsaid_is;
+    text = head;
+    begins = inr refl;
+    told_so_far = run.transcript.writer.put;
+    noted_is = subst (λ sink. Puts (noted streams.transcript) (unnoted streams.transcript) head run.transcript.writer.put (noted sink) (unnoted sink)) (sym transcript) b.noted_is;
+  }
+
+  -- streams that nothing touched
+  pub unused_same : (head : List ℕ) (streams given : Held I O T) → given ≡ streams → IsUnused took unread said unsaid noted unnoted head streams given
+  unused_same head streams given same = subst (λ (s : Held I O T). IsUnused took unread said unsaid noted unnoted head streams s) (sym same) (record {
+    read = refl;
+    unread_is = refl;
+    said_is = refl;
+    unsaid_is = refl;
+    text = [];
+    begins = inl refl;
+    told_so_far = Ok tt;
+    noted_is = puts-none (noted streams.transcript) (unnoted streams.transcript);
+  })
+
+  -- over streams that are unused nobody was served, where the head is that of a script over which nothing comes
+  pub unserved_by : (head : List ℕ) (setup : Setup) (streams given : Held I O T) → IsTranscript head setup → setup.arrivals ≡ [] → IsUnused took unread said unsaid noted unnoted head streams given
+      → Unserved (streams_of took unread said unsaid noted unnoted streams) (streams_of took unread said unsaid noted unnoted given)
+  unserved_by head setup streams given begins none u = record {
+    read = u.read;
+    unread = u.unread_is;
+    said = u.said_is;
+    unsaid = u.unsaid_is;
+    head = u.text;
+    begins = ⊎_elim (λ empty. inl empty) (λ is. inr (setup, ap script_of is ∙ begins.says ∙ bare setup none)) u.begins;
+    told = u.told_so_far;
+    noted = u.noted_is;
+  }
+
+  -- a kernel that came back as it was begun over these streams
+  pub unused_after : (clients : Bool) (setup : Setup) (head : List ℕ) (streams given : Held I O T) (kernel back : Logged (Coming (LiveRun I O T))) (live : LiveRun I O T)
+      → IsBegunOver took unread said unsaid noted unnoted clients setup head streams kernel → back ≡ kernel → live ≡ back.answers.outside
+      → given.input ≡ input_of live → given.output ≡ sink_in (output_of live) → given.transcript ≡ sink_in (notes_of live)
+      → IsUnused took unread said unsaid noted unnoted head streams given
+  unused_after clients setup head streams given kernel back live b same is input output transcript =
+      unused_by clients head setup.hands streams given live
+      (subst (λ (l : LiveRun I O T). IsBegun took unread said unsaid noted unnoted clients head setup.hands streams (told took unread said unsaid noted unnoted l))
+      (sym (is ∙ ap (λ (k : Logged (Coming (LiveRun I O T))). k.answers.outside) same ∙ b.still)) b.begun) input output transcript
+
+  -- what a run leaves that wanted memory
+  pub starved_left : (head : List ℕ) (setup : Setup) (streams given : Held I O T) (left : Held I O T × Ending) → IsTranscript head setup → setup.arrivals ≡ []
+      → IsUnused took unread said unsaid noted unnoted head streams given → left ≡ (given, Finished)
+      → Unserved (streams_of took unread said unsaid noted unnoted streams) (left_of took unread said unsaid noted unnoted left).0 × ((left_of took unread said unsaid noted unnoted left).1 ≡ Finished)
+  starved_left head setup streams given left begins none u same = (
+    subst (λ (l : Held I O T × Ending). Unserved (streams_of took unread said unsaid noted unnoted streams) (streams_of took unread said unsaid noted unnoted l.0)) (sym same) (unserved_by head setup streams given begins none u),
+    ap (λ (l : Held I O T × Ending). l.1) same,
+  )

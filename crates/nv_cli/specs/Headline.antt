@@ -15,14 +15,14 @@
 -- All of them, by theme. (.ci/headline.py --write makes the lines from here on.)
 -- ---- What a command has to do: words and files
 -- Begin with `IsDue` of nv_driver's Due, which has a case for each command; a live run's streams are `Lived` of Live.
-use Rattle.nv_cli.specs.Program.{Given, IsDueOf, AreRefused, Begins, EndsWith, OverOf, exit_of as nv_cli_exit_of, ProgramAnswers, ProcessEnds}
+use Rattle.nv_cli.specs.Program.{Given, IsDueOf, AreRefused, Begins, EndsWith, OverOf, ProgramAnswers, ProcessEnds}
 use Rattle.nv_cli.specs.Streams.{streams_of, left_of}
 use Rattle.nv_driver.specs.Account.{process_begun, IsRunOf, run_status}
 use Rattle.nv_driver.specs.Causes.{cause_text}
 use Rattle.nv_driver.specs.Due.{RunComesTo, made_outcome, RunOwes, JobOwes, GenOwes, lack_outcome, traced_outcome, TrailOwes, replayed, files_after, shown_of, shown, RecordComesTo, RecordOwes, ServeComesTo, ServeOwes, Owes, OwesAny, IsDue, IsUntouched, Shows, Says, Answers, ServedOver, Over, AnswersOver, IsReady, IsMade, IsTraced, IsAccepted, IsRefusedAt, IsRefusedFor, IsRefusedOn, IsRefused as nv_driver_IsRefused, IsReport, IsDone, Completes, Rejects}
 use Rattle.nv_driver.specs.Found.{FILE_LIMIT, TRACE_LIMIT, TRANSCRIPT_LIMIT, script_limit, is_longer, TookMore, Found, IsReadWithin, IsLongerThan, AgreesWithin, Agrees, ScriptAgrees, AllAgree, AgreesIf, Finds, AreFound, found_whole, found_within, found_of, script_found, finds_of}
 use Rattle.nv_driver.specs.Generated.{IsMadeRun}
-use Rattle.nv_driver.specs.Live.{bare_text, after_first_line, whole_lines, transcript_head, unless_comes, without_arrivals, as_begun, live_script, after_live_script, live_prepared, AgreesOrBare, AreLiveFound, found_or_bare, live_finds_of, with_arrivals, with_hands, Streams, ended_by_writes, ending_of, Lived}
+use Rattle.nv_driver.specs.Live.{bare_text, after_first_line, whole_lines, transcript_head, unless_comes, without_arrivals, as_begun, live_script, after_live_script, live_prepared, AgreesOrBare, AreLiveFound, found_or_bare, live_finds_of, with_arrivals, with_hands, Streams, Unserved, ended_by_writes, ending_of, Lived}
 use Rattle.nv_driver.specs.Made.{accepted_text, accepted_filter, of_rules, of_program, used, unless_refused, made_of}
 use Rattle.nv_driver.specs.Outcome.{Outcome, account_text, totals_of, ending_status, refused_text, text_of as nv_driver_text_of, outcome_status, ended_with, name_at, limit_at, name_in as nv_driver_name_in, name_on, limit_on, Source, source_of}
 use Rattle.nv_driver.specs.Prepared.{VersionOf, of_loaded, of_elf, version_from, Prepared, read_at, with_first_machine, version_then, versions_from, judged_by, rules_then, after_rules, after_script, prepared}
@@ -61,6 +61,7 @@ use Rattle.nv_bpf.specs.Texts.{at_most, field, op_with, op_of_fields, op_of, put
 use Rattle.nv_bpf.specs.Verified.{unless, constant_fault, is_word as nv_bpf_is_word, action_fault, fault_by, op_fault, is_return, or_later_fault, ops_fault, ends_in_return, list_fault, ops_or, verified}
 -- ---- The kernel: calls, files, sockets, what arrives
 -- Begin with `serve_next` of nv_arriving's Arriving, then `serve` of nv_sockets' and of nv_kernel's Serving.
+use Rattle.nv_calls.specs.Answer.{Answer, answer, only, reply_of, state_after, start_at}
 use Rattle.nv_calls.specs.Answers.{polled_count, selected_count, set_bytes, sets_bytes, most_out_by, answer_slot}
 use Rattle.nv_calls.specs.Calls.{Request, Response, Entry, status_of, is_same}
 use Rattle.nv_calls.specs.Constants.{result_alone, utsname_field, names, system, directory, process, parent, user, unless_bad, constant_by, constant_of}
@@ -99,18 +100,18 @@ use Rattle.nv_fs.specs.Opened.{has_flag, opened, open_file, truncated, free_file
 use Rattle.nv_fs.specs.Polls.{READABLE, WRITABLE, FAILED, HUNG, when, input_events, reader_events, writer_events, target_events, file_events, access_of, flags_of as nv_fs_flags_of, file_flags}
 use Rattle.nv_fs.specs.Seeks.{bytes_of, plus_signed, base_of, seek_to, seek_from, seek_target, seek_open, seek_of}
 use Rattle.nv_fs.specs.Starts.{first_descriptors, first_opens, console_limit, first_state}
-use Rattle.nv_fs.specs.States.{Inode, FileState, Answer, answer, only, numbered, open_of, is_open, one_way, is_target, opens_to, has_open, is_numbered, is_shared, file_at, is_kept, is_pipe, least_free, with_at, free_open, install, moved_to}
+use Rattle.nv_fs.specs.States.{Inode, FileState, numbered, open_of, is_open, one_way, is_target, opens_to, has_open, is_numbered, is_shared, file_at, is_kept, is_pipe, least_free, with_at, free_open, install, moved_to}
 use Rattle.nv_fs.specs.Stored.{MOST_WRITTEN, write_console, with_content, start_of, write_at, write_pipe, write_target, write_open, write_of}
 use Rattle.nv_fs.specs.Told.{told_by, told_of, opened_as}
 use Rattle.nv_fs.specs.Waits.{is_input, reads_input, waits_on_input}
 use Rattle.nv_kernel.specs.Crew.{Crew, first_crew, may_clone, clone_as, clone_of, exit_of, with_none_live}
-use Rattle.nv_kernel.specs.Serving.{State, Served, replied, always, of_files, of_crew, counted, request_arg, second, time_bytes, time_of, reached, next_random, high_byte, randoms, random_after, randomly, control, unless_many, clock, answered, unless_bad as nv_kernel_unless_bad, serve, named_inode, first_state as nv_kernel_first_state}
+use Rattle.nv_kernel.specs.Serving.{State, always, of_files, of_crew, counted, request_arg, second, time_bytes, time_of, reached, next_random, high_byte, randoms, random_after, randomly, control, unless_many, clock, answered, unless_bad as nv_kernel_unless_bad, serve, named_inode, first_state as nv_kernel_first_state}
 use Rattle.nv_sockets.specs.Coming.{connected, with_data, ended}
-use Rattle.nv_sockets.specs.Serving.{of_open, unless_many as nv_sockets_unless_many, answered as nv_sockets_answered, unless_bad as nv_sockets_unless_bad, or_own, State as nv_sockets_State, Served as nv_sockets_Served, beside, joined, serve as nv_sockets_serve, link_written, link_from, waiting_from, first_net, first_state as nv_sockets_first_state}
-use Rattle.nv_sockets.specs.Sockets.{Inbox, Link, Net, Answer as nv_sockets_Answer, answer as nv_sockets_answer, only as nv_sockets_only, socket_count, output_limit, no_sockets, socket_at, fault_of, on_socket, with_socket, free_place, socket_opened, are_flags, is_stream, is_tcp, made_at, socket_of, port_by, port_in, is_size, has_port, is_used, bind_to, bind_socket, bind_of, listen_socket, listen_of, first_at, next_at, without as nv_sockets_without, with_accepted, accept_next, accept_socket, accept_flagged, accept_of, link_at, unread_in, unread_of, over_in, has_unread, is_over, is_going as nv_sockets_is_going, link_output, with_link, with_inbox, read_link, read_socket, with_output, write_link, write_socket, closed_link, close_socket}
+use Rattle.nv_sockets.specs.Serving.{of_open, unless_many as nv_sockets_unless_many, answered as nv_sockets_answered, unless_bad as nv_sockets_unless_bad, or_own, State as nv_sockets_State, beside, joined, serve as nv_sockets_serve, link_written, link_from, waiting_from, first_net, first_state as nv_sockets_first_state}
+use Rattle.nv_sockets.specs.Sockets.{Inbox, Link, Net, socket_count, output_limit, no_sockets, socket_at, fault_of, on_socket, with_socket, free_place, socket_opened, are_flags, is_stream, is_tcp, made_at, socket_of, port_by, port_in, is_size, has_port, is_used, bind_to, bind_socket, bind_of, listen_socket, listen_of, first_at, next_at, without as nv_sockets_without, with_accepted, accept_next, accept_socket, accept_flagged, accept_of, link_at, unread_in, unread_of, over_in, has_unread, is_over, is_going as nv_sockets_is_going, link_output, with_link, with_inbox, read_link, read_socket, with_output, write_link, write_socket, closed_link, close_socket}
 use Rattle.nv_sockets.specs.Texts.{connection_count_text, connection_text, connection_texts, connections_text}
 use Rattle.nv_arriving.specs.Arrivals.{ends, any_ends, until, taken_for, in_vain}
-use Rattle.nv_arriving.specs.Arriving.{wants_input, wants_data, read_wants, wants_client, accept_wants, wants_on, wants_as, wants, wait_of, with_input as nv_arriving_with_input, with_net, arrive, arrive_all, with_end, unless_vain, Reached, counted as nv_arriving_counted, reached_by, polled, would_wait, later_as, later, nonblocking_by, noted, note, own_answer as nv_arriving_own_answer, or_own as nv_arriving_or_own, serve_by, Stage, taken, ready_for, answer_next, serve_next, stage_after, Satisfied, reply_by, start_at, first_standing, first_stage, start_of_arrivals}
+use Rattle.nv_arriving.specs.Arriving.{wants_input, wants_data, read_wants, wants_client, accept_wants, wants_on, wants_as, wants, wait_of, with_input as nv_arriving_with_input, with_net, arrive, arrive_all, with_end, unless_vain, counted as nv_arriving_counted, reached_by, polled, would_wait, later_as, later, nonblocking_by, noted, note, own_answer as nv_arriving_own_answer, or_own as nv_arriving_or_own, serve_by, Stage, taken, ready_for, answer_next, serve_next, Satisfied, first_standing, first_stage, start_of_arrivals}
 use Rattle.nv_arriving.specs.Doings.{of_bytes, socket_by, accepted_as, accepted, written as nv_arriving_written, sent, closed, said, doings_of, doings_from, doings}
 use Rattle.nv_arriving.specs.Flags.{NONBLOCK, is_nonblocking_by, is_nonblocking, flags_by, flags, flags_set, with_flags, control_open, control_by, control_of}
 use Rattle.nv_arriving.specs.Kernel.{after as nv_arriving_after}

@@ -1,5 +1,5 @@
 -- What the program says, over the words of the process or over why there are none.
-use Rattle.std.specs.Prelude.{◌≡◌, ◌++◌, ℕ, List, Option, None, Some, Result, Ok, Err, Vec, String, IsOk, IsErr, IfOk, option_map}
+use Rattle.std.specs.Prelude.{◌≡◌, ◌++◌, ℕ, List, Option, None, Some, Result, Ok, Err, Vec, String, IsOk, IsErr, IfOk}
 use Rattle.std.specs.Global.{Global}
 use Rattle.nv_outside.specs.Told.{Told, Grows}
 use Rattle.nv_outside.specs.Sink.{Put, faults_by}
@@ -41,17 +41,12 @@ pub record EndsWith (text : List ℕ) (text_status : ℕ) (before : Option (List
   pub begun : IsErr put → Begins before text after
 
 -- what was done over the streams of a live run; without words they stay as they are
-abbrev pub OverOf : Given → Outcome → Streams → Option (Streams × Ending) → Type 0
+abbrev pub OverOf : Given → Outcome → Streams → Streams × Ending → Type 0
 OverOf (Ok words) outcome before later = Over (command_of (texts words.items)) outcome before later
-OverOf (Err fault) outcome before later = later ≡ Some (before, Finished)
-
--- the status of a process whose streams are these, and that said something with this status
-abbrev pub exit_of : Option Ending → ℕ → ℕ
-exit_of None status = status
-exit_of (Some ending) status = ending_status ending status
+OverOf (Err fault) outcome before later = later ≡ (before, Finished)
 
 -- The program came to an outcome that is due, and ended with it. Where words are refused, or there are none, no file was read.
-pub record ProgramAnswers (words : Given) (source : Source) (streams : Streams) (before : Option (List ℕ)) (faults : ℕ) (status : ℕ) (after : Option (List ℕ)) (later_faults : ℕ) (later : Option (Streams × Ending)) : Type 0 where
+pub record ProgramAnswers (words : Given) (source : Source) (streams : Streams) (before : Option (List ℕ)) (faults : ℕ) (status : ℕ) (after : Option (List ℕ)) (later_faults : ℕ) (later : Streams × Ending) : Type 0 where
   pub outcome : Outcome
   pub due : IsDueOf words source.holds outcome
   pub shown : Shows outcome source
@@ -60,9 +55,9 @@ pub record ProgramAnswers (words : Given) (source : Source) (streams : Streams) 
   pub over : OverOf words outcome streams later
 
 -- The program ended so, and what it said had a status, of which `completes` and `rejects` speak. The process ends with that, or with the status of a stream that failed.
-pub record ProcessEnds (words : Given) (source : Source) (streams : Streams) (before : Option (List ℕ)) (faults : ℕ) (code : ℕ) (after : Option (List ℕ)) (later_faults : ℕ) (later : Option (Streams × Ending)) : Type 0 where
+pub record ProcessEnds (words : Given) (source : Source) (streams : Streams) (before : Option (List ℕ)) (faults : ℕ) (code : ℕ) (after : Option (List ℕ)) (later_faults : ℕ) (later : Streams × Ending) : Type 0 where
   pub status : ℕ
-  pub code_is : code ≡ exit_of (option_map (λ l. l.1) later) status
+  pub code_is : code ≡ ending_status later.1 status
   pub answers : ProgramAnswers words source streams before faults status after later_faults later
   pub completes : IfOk words (λ words. Completes (texts words.items) source faults status later_faults)
   pub rejects : IfOk words (λ words. Rejects (texts words.items) source status)

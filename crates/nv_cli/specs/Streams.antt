@@ -1,5 +1,5 @@
 -- The streams of a live run, as what they tell.
-use Rattle.std.specs.Prelude.{ℕ, List, Option, option_map}
+use Rattle.std.specs.Prelude.{ℕ, List, Option}
 use Rattle.nv_live.specs.declared.streams.Streams.{Streams as Held}
 use Rattle.nv_driver.specs.Live.{Streams}
 use Rattle.nv_driver.specs.declared.ending.Ending.{Ending}
@@ -17,5 +17,5 @@ module _ {I O T : Type 0} (took : I → Option (List (List ℕ))) (unread : I �
   }
 
   -- what those tell that a call gives back, and how a live run over them ended
-  abbrev pub left_of : Option (Held I O T × Ending) → Option (Streams × Ending)
-  left_of left = option_map (λ l. (streams_of l.0, l.1)) left
+  abbrev pub left_of : Held I O T × Ending → Streams × Ending
+  left_of left = (streams_of left.0, left.1)

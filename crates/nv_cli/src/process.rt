@@ -1,9 +1,9 @@
 // The program: the top call over the words of the process, and what it writes.
-ghost use Rattle.std.specs.Prelude.{◌≡◌, ◌≢◌, option_map};
+ghost use Rattle.std.specs.Prelude.{◌≡◌, ◌≢◌};
 ghost use Rattle.nv_outside.specs.Gathering.{sink_of, held_of};
-ghost use Rattle.nv_driver.specs.Outcome.{source_of};
+ghost use Rattle.nv_driver.specs.Outcome.{source_of, ending_status};
 ghost use Rattle.nv_driver.specs.Due.{Says};
-ghost use Rattle.nv_cli.specs.Program.{ProgramAnswers, ProcessEnds, exit_of};
+ghost use Rattle.nv_cli.specs.Program.{ProgramAnswers, ProcessEnds};
 ghost use Rattle.nv_cli.specs.Streams.{streams_of, left_of};
 
 use crate::serving::Left;
@@ -44,7 +44,7 @@ fn answer<
         Ok(words) => varan_over(rt, alloc, &words, files, sink, gate, streams),
         Err(fault) => {
             let status = refuse_words(sink, fault);
-            (status, Some((streams, Ending::Finished)))
+            (status, (streams, Ending::Finished))
         }
     }
 }
@@ -64,12 +64,9 @@ fn finish<S: Sink>(sink: Gathering<S>, status: u8) -> (S, u8)
 
 /// The status of the process: that of a stream that failed, or else that of what was said.
 pub fn exit_status<I, O, T>(status: u8, left: &Left<I, O, T>) -> u8
-    ensures { result ≡ exit_of (option_map (λ l. l.1) left.now) status }
+    ensures { result ≡ ending_status left.now.1 status }
 {
-    match left {
-        Some((_, ending)) => ending_status(*ending, status),
-        None => status,
-    }
+    ending_status(left.1, status)
 }
 
 /// The monitor as a program, over the words of the process, or over why there are none: they aren't text, or memory was

@@ -1,15 +1,15 @@
 // A live run.
-ghost use Rattle.std.specs.Prelude.{◌≡◌, ◌≤◌, [], List, ℕ, Some, IsTrue, IfOk, length, option_map};
+ghost use Rattle.std.specs.Prelude.{◌≡◌, ◌≤◌, [], List, ℕ, Some, IsTrue, IfOk, IfErr, length, option_map};
 ghost use Rattle.nv_command.specs.Seen.{limits_view, service_view};
 ghost use Rattle.nv_command.specs.Words.{Serves, command_of};
 ghost use Rattle.nv_replay.specs.Account.{AreFresh};
 ghost use Rattle.nv_script.specs.Scripts.{is_script};
 ghost use Rattle.nv_script.specs.Views.{setup_of};
 ghost use Rattle.nv_threads.specs.Threads.{threads};
-ghost use Rattle.nv_driver.specs.Due.{AnswersOver};
+ghost use Rattle.nv_driver.specs.Due.{AnswersOver, Says};
 ghost use Rattle.nv_cli.specs.Streams.{streams_of, left_of};
-ghost use Rattle.nv_driver.specs.Outcome.{source_of};
-ghost use Rattle.nv_cli.specs.inner.Serving.{IsBegunOver, IsReadyToServe, HasLeft, RanOver, ServeSays};
+ghost use Rattle.nv_driver.specs.Outcome.{NoMemory, source_of, text_of};
+ghost use Rattle.nv_cli.specs.inner.Serving.{IsBegunOver, IsUnused, IsReadyToServe, HasLeft, RanOver, ServeSays};
 
 use crate::beside::run_on_demand;
 use nv_arrivals::Outside;
@@ -24,26 +24,42 @@ use nv_outside::{Files, Sink};
 use nv_replay::{Account, Version};
 use nv_script::Script;
 use nv_workers::Gate;
-use std::alloc::{AllocError, Global};
+use std::alloc::Global;
 use std::sync::Wait;
 use std::thread::Threads;
 
-/// The streams of a live run as it left them, and how it ended; nothing where memory was wanted while it had them.
-pub type Left<I, O, T> = Option<(Streams<I, O, T>, Ending)>;
+/// The streams of a live run as it left them, and how it ended.
+pub type Left<I, O, T> = (Streams<I, O, T>, Ending);
 
-// A kernel over what comes by these streams, of which the transcript gets its head.
+// A kernel over what comes by these streams, of which the transcript gets its head. Where memory is wanted they come back.
 fn kernel_over<I: Source + Send, O: Sink + Drop + Send, T: Sink + Drop + Send>(
     alloc: Global,
     script: &Script,
     clients: bool,
     head: &[u8],
     streams: Streams<I, O, T>,
-) -> Result<ArrivingKernel<LiveRun<I, O, T>>, AllocError>
+) -> Result<ArrivingKernel<LiveRun<I, O, T>>, Streams<I, O, T>>
     requires script { IsTrue (is_script (setup_of script.now)) }
-    ensures { IfOk result (λ k. IsBegunOver I.took I.faults O.told O.faults T.told T.faults clients (setup_of script.now) head.now streams k) }
+    ensures begun { IfOk result (λ k. IsBegunOver I.took I.faults O.told O.faults T.told T.faults clients (setup_of script.now) head.now streams k) }
+    ensures unused { IfErr result (IsUnused I.took I.faults O.told O.faults T.told T.faults head.now streams) }
 {
-    let live = LiveRun::begin(alloc, clients, streams, head, &script.hands)?;
-    arriving(alloc, script, live)
+    let live = match LiveRun::begin(alloc, clients, streams, head, &script.hands) {
+        Ok(live) => live,
+        Err(streams) => return Err(streams),
+    };
+    match arriving(alloc, script, live) {
+        Ok(kernel) => Ok(kernel),
+        Err(live) => Err(live.finish()),
+    }
+}
+
+// Says that memory was wanted, of a run that served nobody over these streams.
+fn starve<S: Sink, I, O, T>(sink: &mut S, streams: Streams<I, O, T>) -> (u8, Left<I, O, T>)
+    ensures says { Says (text_of NoMemory) 3 (S.told sink.old) (S.faults sink.old) result.0 (S.told sink.new) (S.faults sink.new) }
+    ensures same { result.1 ≡ (streams, Ending.Finished) }
+{
+    let status = put_line(sink, b"varan: memory\n", MEMORY);
+    (status, (streams, Ending::Finished))
 }
 
 // What a run has left of its streams; what no call took is shown in the transcript.
@@ -68,12 +84,13 @@ fn run_over<R: Threads + Wait + Sync, G: Gate + Sync, X: Outside + Telling + Sen
     limits: Limits,
     clients: bool,
     gate: &G,
-) -> Result<Account<ArrivingKernel<X>>, AllocError>
+) -> Result<Account<ArrivingKernel<X>>, ArrivingKernel<X>>
     requires fresh { AreFresh threads 0 versions.items }
     requires few { length versions.items ≤ 8 }
     requires empty { kernel.log ≡ [] }
     requires hands { length hands.now.items ≤ 8 }
-    ensures { IfOk result (λ r. RanOver X.told clients kernel (option_map (λ f. f.now) rules.entry) limits.calls hands.now.items versions.items r) }
+    ensures same { IfErr result (λ given. given ≡ kernel) }
+    ensures ran { IfOk result (λ r. RanOver X.told clients kernel (option_map (λ f. f.now) rules.entry) limits.calls hands.now.items versions.items r) }
 {
     run_on_demand(
         rt, alloc, versions, rules, kernel, gate, limits, hands, clients,
@@ -108,10 +125,11 @@ fn serve_versions<
         rules,
         versions,
     } = prepared;
-    let Ok(kernel) = kernel_over(alloc, &script, clients, &head, streams) else {
-        return (put_line(sink, b"varan: memory\n", MEMORY), None);
+    let kernel = match kernel_over(alloc, &script, clients, &head, streams) {
+        Ok(kernel) => kernel,
+        Err(streams) => return starve(sink, streams),
     };
-    let Ok(account) = run_over(
+    let ran = run_over(
         rt,
         alloc,
         kernel,
@@ -121,12 +139,15 @@ fn serve_versions<
         limits,
         clients,
         gate,
-    ) else {
-        return (put_line(sink, b"varan: memory\n", MEMORY), None);
-    };
-    let Account { kernel, versions } = account;
-    let left = left_by(into_outside(kernel));
-    (status(&versions), Some(left))
+    );
+    match ran {
+        Ok(account) => {
+            let Account { kernel, versions } = account;
+            let left = left_by(into_outside(kernel));
+            (status(&versions), left)
+        }
+        Err(kernel) => starve(sink, into_outside(kernel).finish()),
+    }
 }
 
 /// Runs the versions of a service over what comes by these streams.
@@ -166,7 +187,7 @@ pub fn serve<
         ),
         Err(refusal) => {
             let status = refuse_live(alloc, sink, refusal, service);
-            (status, Some((streams, Ending::Finished)))
+            (status, (streams, Ending::Finished))
         }
     }
 }

@@ -239,9 +239,9 @@ fn do_generate<R: Threads + Wait + Sync, S: Sink, G: Gate + Sync>(
 
 // A status, and the streams, which nothing has touched.
 fn left_alone<I, O, T>(status: u8, streams: Streams<I, O, T>) -> (u8, Left<I, O, T>)
-    ensures { (result.0 ≡ status) × (result.1 ≡ Some (streams, Ending.Finished)) }
+    ensures { (result.0 ≡ status) × (result.1 ≡ (streams, Ending.Finished)) }
 {
-    (status, Some((streams, Ending::Finished)))
+    (status, (streams, Ending::Finished))
 }
 
 // Does what the words ask for, and says what it came to. Only a live run takes the streams.
@@ -302,8 +302,8 @@ fn answer<
     }
 }
 
-/// The monitor over the streams of a live run: it takes what comes from them, and they are given back with how it ended, or are gone
-/// where memory was wanted. No other command touches them.
+/// The monitor over the streams of a live run: it takes what comes from them, and they are given back with how it ended. Where
+/// memory was wanted nobody was served. No other command touches them.
 pub fn varan_over<
     R: Threads + Wait + Sync,
     F: Files,

@@ -115,13 +115,11 @@ fn told_by(
     alloc: Global,
     left: &Left<MemorySource, MemorySink, MemorySink>,
 ) -> Result<(Vec<u8>, Vec<u8>), AllocError> {
-    match left {
-        Some((streams, _)) => Ok((
-            streams.output.written().to_vec(alloc)?,
-            streams.transcript.written().to_vec(alloc)?,
-        )),
-        None => Ok((Vec::new(alloc), Vec::new(alloc))),
-    }
+    let (streams, _) = left;
+    Ok((
+        streams.output.written().to_vec(alloc)?,
+        streams.transcript.written().to_vec(alloc)?,
+    ))
 }
 
 /// Calls the monitor with these words, and with a gate that its versions pass.

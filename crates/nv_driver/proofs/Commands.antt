@@ -1,9 +1,10 @@
 -- What the words ask for, by what each command's words are.
-use Rattle.std.proofs.Common.{◌≡◌, ◌∙◌, sym, ap, ℕ, false, List, [], Option, Some, None, refl, inl, inr, ⊎_elim, subst, option_and_then}
+use Rattle.std.proofs.Common.{◌≡◌, ◌∙◌, sym, ap, ℕ, false, List, [], Option, Some, None, Ok, refl, inl, inr, ⊎_elim, subst, option_and_then}
 use Rattle.std.specs.Prelude.{IsSome}
 use Rattle.nv_outside.specs.Told.{Told}
+use Rattle.nv_outside.proofs.Writing.{puts-none}
 use Rattle.nv_driver.specs.Refusals.{ComesTo, LiveComesTo, Refuses, RefusesLive}
-use Rattle.nv_driver.specs.Live.{Streams, with_arrivals, with_hands}
+use Rattle.nv_driver.specs.Live.{Streams, Unserved, with_arrivals, with_hands}
 use Rattle.nv_driver.specs.Account.{IsRunOf, run_status}
 use Rattle.nv_driver.specs.declared.ending.Ending.{Ending}
 use Rattle.nv_driver.specs.declared.ending.Ending.TheVariants.{Finished}
@@ -289,7 +290,7 @@ serve_owes service holds whole outcome files comes = record {
 }
 
 -- what a live run does over its streams that did nothing, where it came to another outcome
-pub nothing_over : (command : Option Command) (outcome : Outcome) (streams : Streams) → ((service : Service) → command ≡ Some (Serves service) → ⊥) → Over command outcome streams (Some (streams, Finished))
+pub nothing_over : (command : Option Command) (outcome : Outcome) (streams : Streams) → ((service : Service) → command ≡ Some (Serves service) → ⊥) → Over command outcome streams (streams, Finished)
 nothing_over None outcome streams other = refl
 nothing_over (Some (Runs plan)) outcome streams other = refl
 nothing_over (Some (Serves service)) outcome streams other = absurd (other service refl)
@@ -299,6 +300,19 @@ nothing_over (Some (Records plan)) outcome streams other = refl
 nothing_over (Some (Replays trail)) outcome streams other = refl
 nothing_over (Some (Inspects look)) outcome streams other = refl
 nothing_over (Some (Helps topic)) outcome streams other = refl
+
+-- nobody is served over streams that nothing touched
+pub unserved : (streams : Streams) → Unserved streams streams
+unserved streams = record {
+  read = refl;
+  unread = refl;
+  said = refl;
+  unsaid = refl;
+  head = [];
+  begins = inl refl;
+  told = Ok tt;
+  noted = puts-none streams.noted streams.unnoted;
+}
 
 module _ (words : List (List ℕ)) (source : Source) (service : Service) (asked : command_of words ≡ Some (Serves service))
     (before : Option (List ℕ)) (faults status : ℕ) (after : Option (List ℕ)) (later : ℕ) where
@@ -316,27 +330,27 @@ module _ (words : List (List ℕ)) (source : Source) (service : Service) (asked 
   starved_answers kept says = wanted_answers words source (Serves service) asked before faults status after later kept says
 
   -- what it did over its streams is that of a live run
-  pub over_served : (outcome : Outcome) (streams : Streams) (ended : Option (Streams × Ending)) → ServedOver service.clients outcome streams ended → Over (command_of words) outcome streams ended
+  pub over_served : (outcome : Outcome) (streams : Streams) (ended : Streams × Ending) → ServedOver service.clients outcome streams ended → Over (command_of words) outcome streams ended
   over_served outcome streams ended over = subst (λ (command : Option Command). Over command outcome streams ended) (sym asked) over
 
   module _ (streams : Streams) where
-    over_nothing : (a : Answers words source before faults status after later) → ServedOver service.clients a.outcome streams (Some (streams, Finished)) → AnswersOver words source streams before faults status after later (Some (streams, Finished))
-    over_nothing a over = record { answers = a; over = over_served a.outcome streams (Some (streams, Finished)) over }
+    over_nothing : (a : Answers words source before faults status after later) → ServedOver service.clients a.outcome streams (streams, Finished) → AnswersOver words source streams before faults status after later (streams, Finished)
+    over_nothing a over = record { answers = a; over = over_served a.outcome streams (streams, Finished) over }
 
-    wanted_over : source.later_faults ≡ source.faults → Says (text_of NoMemory) 3 before faults status after later → AnswersOver words source streams before faults status after later (Some (streams, Finished))
-    wanted_over kept says = over_nothing (starved_answers kept says) (inl refl)
+    wanted_over : source.later_faults ≡ source.faults → Says (text_of NoMemory) 3 before faults status after later → AnswersOver words source streams before faults status after later (streams, Finished)
+    wanted_over kept says = over_nothing (starved_answers kept says) (unserved streams, refl)
 
     unread_over : (name : List ℕ) → Owes (Serves service) source.holds (NotRead name) → Shows (NotRead name) source → Says (text_of (NotRead name)) 5 before faults status after later
-        → AnswersOver words source streams before faults status after later (Some (streams, Finished))
+        → AnswersOver words source streams before faults status after later (streams, Finished)
     unread_over name owed shown says = over_nothing (told_answers words source (Serves service) asked before faults status after later (NotRead name) owed shown says) refl
 
     unfit_over : (name : List ℕ) (cause : Cause) → Owes (Serves service) source.holds (NotAccepted FILE_LIMIT name cause) → Shows (NotAccepted FILE_LIMIT name cause) source
-        → Says (refused_text name cause) 4 before faults status after later → AnswersOver words source streams before faults status after later (Some (streams, Finished))
+        → Says (refused_text name cause) 4 before faults status after later → AnswersOver words source streams before faults status after later (streams, Finished)
     unfit_over name cause owed shown says = over_nothing (told_answers words source (Serves service) asked before faults status after later (NotAccepted FILE_LIMIT name cause) owed shown says) refl
 
     -- a live run that doesn't start answers its refusal, and does nothing over its streams
     pub live_refusal_answers : (refusal : Refusal) → RefusesLive refusal source.holds service source.faults source.later_faults source.taken source.later_taken
-        → Tells (live_outcome_of refusal service) before faults status after later → AnswersOver words source streams before faults status after later (Some (streams, Finished))
+        → Tells (live_outcome_of refusal service) before faults status after later → AnswersOver words source streams before faults status after later (streams, Finished)
     live_refusal_answers Memory h says = wanted_over h says
     live_refusal_answers (Unread place) h says =
         unread_over (name_in place service) (serve_owes service source.holds (prep.Unreadable place) (NotRead (name_in place service)) h.0 refl) h.1 says

@@ -13,7 +13,7 @@ use Rattle.nv_replay.specs.Sequence.{Account}
 use Rattle.nv_driver.specs.Account.{IsRunOf, process_begun}
 use Rattle.nv_driver.specs.Found.{Found, Finds, Agrees, AreFound, FILE_LIMIT, TookMore, found_of, finds_of}
 use Rattle.nv_driver.specs.Prepared.{Prepared, Unreadable, Refused, Ready, prepared}
-use Rattle.nv_driver.specs.Live.{Streams, Lived, AreLiveFound, live_prepared, live_finds_of, with_arrivals, with_hands}
+use Rattle.nv_driver.specs.Live.{Streams, Lived, Unserved, AreLiveFound, live_prepared, live_finds_of, with_arrivals, with_hands}
 use Rattle.nv_driver.specs.declared.ending.Ending.{Ending}
 use Rattle.nv_driver.specs.declared.ending.Ending.TheVariants.{Finished}
 use Rattle.nv_arrivals.specs.Arrivals.{Arrival}
@@ -181,20 +181,19 @@ pub record Answers (words : List (List ℕ)) (source : Source) (before : Option 
   pub unread : command_of words ≡ None → IsUntouched source
   pub says : Says (text_of outcome) (outcome_status outcome) before faults status after later_faults
 
--- What a live run that came to this did over its streams, which have lines of clients or not. Where memory was wanted they may be gone.
-abbrev pub ServedOver : Bool → Outcome → Streams → Option (Streams × Ending) → Type 0
-ServedOver clients (Served setup account) before None = ⊥
-ServedOver clients (Served setup account) before (Some after) = Lived clients setup account.log after.1 before after.0
-ServedOver clients NoMemory before later = (later ≡ Some (before, Finished)) ⊎ (later ≡ None)
-ServedOver clients outcome before later = later ≡ Some (before, Finished)
+-- What a live run that came to this did over its streams, which have lines of clients or not. Where memory was wanted nobody was served.
+abbrev pub ServedOver : Bool → Outcome → Streams → Streams × Ending → Type 0
+ServedOver clients (Served setup account) before after = Lived clients setup account.log after.1 before after.0
+ServedOver clients NoMemory before after = Unserved before after.0 × (after.1 ≡ Finished)
+ServedOver clients outcome before after = after ≡ (before, Finished)
 
 -- no other command touches the streams of a live run
-abbrev pub Over : Option Command → Outcome → Streams → Option (Streams × Ending) → Type 0
+abbrev pub Over : Option Command → Outcome → Streams → Streams × Ending → Type 0
 Over (Some (Serves service)) outcome before later = ServedOver service.clients outcome before later
-Over command outcome before later = later ≡ Some (before, Finished)
+Over command outcome before later = later ≡ (before, Finished)
 
 -- The call answers, and over the streams of a live run does what its outcome tells.
-pub record AnswersOver (words : List (List ℕ)) (source : Source) (streams : Streams) (before : Option (List ℕ)) (faults : ℕ) (status : ℕ) (after : Option (List ℕ)) (later_faults : ℕ) (later : Option (Streams × Ending)) : Type 0 where
+pub record AnswersOver (words : List (List ℕ)) (source : Source) (streams : Streams) (before : Option (List ℕ)) (faults : ℕ) (status : ℕ) (after : Option (List ℕ)) (later_faults : ℕ) (later : Streams × Ending) : Type 0 where
   pub answers : Answers words source before faults status after later_faults
   pub over : Over (command_of words) answers.outcome streams later
 

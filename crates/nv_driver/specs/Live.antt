@@ -109,6 +109,17 @@ pub record Streams : Type 0 where
   pub noted : Option (List ℕ)
   pub unnoted : ℕ
 
+-- Nobody was served over these streams: nothing was read, nothing was said, and the transcript has nothing but, at most, a text that says what a run begins with and in which nothing comes.
+pub record Unserved (before after : Streams) : Type 0 where
+  pub read : after.read ≡ before.read
+  pub unread : after.unread ≡ before.unread
+  pub said : after.said ≡ before.said
+  pub unsaid : after.unsaid ≡ before.unsaid
+  pub head : List ℕ
+  pub begins : (head ≡ []) ⊎ ((setup : Setup) × (script_of head ≡ Ok (with_arrivals setup [])))
+  pub told : Put
+  pub noted : Puts before.noted before.unnoted head told after.noted after.unnoted
+
 -- a write to standard output that failed, or else one of the transcript
 abbrev pub ended_by_writes : Put → Put → Ending
 ended_by_writes (Err _) told = Unsaid

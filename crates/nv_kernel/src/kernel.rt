@@ -1,5 +1,5 @@
 // The kernel, with the log of the calls that it served.
-ghost use Rattle.std.specs.Prelude.{◌≡◌, ◌<◌, ◌++◌, [], ◌∷◌, true, length, IsTrue, IfOk};
+ghost use Rattle.std.specs.Prelude.{◌≡◌, ◌<◌, ◌++◌, [], ◌∷◌, true, length, IsTrue, IfOk, IfErr};
 ghost use Rattle.nv_calls.specs.Answer.{state_after};
 ghost use Rattle.nv_calls.specs.Logs.{calls_of};
 ghost use Rattle.nv_script.specs.Scripts.{is_script};
@@ -68,12 +68,15 @@ fn add(log: &mut Past<Event>, event: Event, keeps: bool)
 }
 
 impl<A: Answers> Kernel<A> {
-    /// A kernel that has served nothing, over what the script gives and what answers.
-    pub fn over(alloc: Global, script: &Script, answers: A) -> Result<Kernel<A>, AllocError>
+    /// A kernel that has served nothing, over what the script gives and what answers, which comes back where memory is wanted.
+    pub fn over(alloc: Global, script: &Script, answers: A) -> Result<Kernel<A>, A>
         requires fresh { A.stands answers (setup_of script.now) [] }
-        ensures { IfOk result (λ k. (k.log ≡ []) × (k.setup ≡ setup_of script.now) × (k.answers ≡ answers)) }
+        ensures begun { IfOk result (λ k. (k.log ≡ []) × (k.setup ≡ setup_of script.now) × (k.answers ≡ answers)) }
+        ensures same { IfErr result (λ given. given ≡ answers) }
     {
-        let out = Bytes::make(alloc, MOST_BYTES)?;
+        let Ok(out) = Bytes::make(alloc, MOST_BYTES) else {
+            return Err(answers);
+        };
         Ok(Kernel {
             alloc,
             script: Snapshot::of(script),
@@ -109,7 +112,10 @@ impl<A: FromScript> Kernel<A> {
         ensures { IfOk result (λ k. (k.log ≡ []) × (k.setup ≡ setup_of script.now)) }
     {
         let answers = A::make(alloc, script)?;
-        Kernel::over(alloc, script, answers)
+        match Kernel::over(alloc, script, answers) {
+            Ok(kernel) => Ok(kernel),
+            Err(_) => Err(AllocError),
+        }
     }
 }
 

@@ -4,6 +4,7 @@ ghost use Rattle.nv_arrivals.specs.Arrivals.{is_arrival};
 ghost use Rattle.nv_arrivals.specs.Reading.{arrival_of};
 ghost use Rattle.nv_arrivals.specs.Doings.{handing};
 ghost use Rattle.nv_arrivals.specs.Views.{view, taking};
+ghost use Rattle.nv_live.specs.Buffer.{held_in};
 ghost use Rattle.nv_live.specs.Clients.{coming_of, lines_out_of, transcript_from, hand_overs_of, stop_among, DidLines, DoesLines};
 ghost use Rattle.nv_live.specs.ComingLines.{source_from, held_from, line_from, order_from, taken_from, asked_from, stop_from, is_passed, IsWhole};
 ghost use Rattle.nv_live.specs.HandOvers.{lengths_of};
@@ -16,6 +17,7 @@ ghost use Rattle.nv_live.specs.Writer.{sink_in, put_of, WritesOn};
 ghost use Rattle.nv_script.specs.HandLines.{can_plan};
 ghost use Rattle.nv_script.specs.Scripts.{are_hands};
 
+use crate::buffer::Buffer;
 use crate::coming_lines::ComingLines;
 use crate::hand_overs::HandOvers;
 use crate::said_lines::SaidLines;
@@ -38,35 +40,37 @@ pub struct Clients<I, O, T> {
 }
 
 impl<I: Source, O: Sink + Drop, T: Sink + Drop> Clients<I, O, T> {
-    /// Nothing was read yet and nothing said. The transcript begins with this text, which plans these lengths to hand over at.
-    pub fn make(
+    // Nothing was read yet and nothing said. The transcript begins with this text, which plans these lengths to hand over at.
+    pub(crate) fn new(
         alloc: Global,
+        buffer: Buffer,
         source: I,
         out: O,
         transcript: T,
         head: &[u8],
         hands: &[u32],
-    ) -> Result<Clients<I, O, T>, AllocError>
-        requires { IsTrue (are_hands hands.now) }
-        ensures did { IfOk result (λ clients. DidLines I.took I.faults O.told O.faults T.told T.faults clients clients []) }
-        ensures source { IfOk result (λ clients. source_from (coming_of clients) ≡ source) }
-        ensures out { IfOk result (λ clients. sink_in (writer_of (lines_out_of clients)) ≡ out) }
-        ensures head { IfOk result (λ clients. Puts (T.told transcript) (T.faults transcript) head.now (put_of (writer_in (transcript_from clients))) (T.told (sink_in (writer_in (transcript_from clients)))) (T.faults (sink_in (writer_in (transcript_from clients))))) }
-        ensures held { IfOk result (λ clients. held_from (coming_of clients) ≡ []) }
-        ensures line { IfOk result (λ clients. line_from (coming_of clients) ≡ []) }
-        ensures order { IfOk result (λ clients. order_from (coming_of clients) ≡ nothing_came (most_clients true)) }
-        ensures taken { IfOk result (λ clients. taken_from (coming_of clients) ≡ 0) }
-        ensures asked { IfOk result (λ clients. asked_from (coming_of clients) ≡ false) }
-        ensures hands { IfOk result (λ clients. lengths_of (hand_overs_of clients) ≡ hands.now) }
-        ensures going { IfOk result (λ clients. stop_from (coming_of clients) ≡ None) }
-        ensures whole { IfOk result (λ clients. IsOk (put_of (writer_of (lines_out_of clients)))) }
+    ) -> Clients<I, O, T>
+        requires hands { IsTrue (are_hands hands.now) }
+        requires empty { held_in buffer ≡ [] }
+        ensures did { DidLines I.took I.faults O.told O.faults T.told T.faults result result [] }
+        ensures source { source_from (coming_of result) ≡ source }
+        ensures out { sink_in (writer_of (lines_out_of result)) ≡ out }
+        ensures head { Puts (T.told transcript) (T.faults transcript) head.now (put_of (writer_in (transcript_from result))) (T.told (sink_in (writer_in (transcript_from result)))) (T.faults (sink_in (writer_in (transcript_from result)))) }
+        ensures held { held_from (coming_of result) ≡ [] }
+        ensures line { line_from (coming_of result) ≡ [] }
+        ensures order { order_from (coming_of result) ≡ nothing_came (most_clients true) }
+        ensures taken { taken_from (coming_of result) ≡ 0 }
+        ensures asked { asked_from (coming_of result) ≡ false }
+        ensures hands { lengths_of (hand_overs_of result) ≡ hands.now }
+        ensures going { stop_from (coming_of result) ≡ None }
+        ensures whole { IsOk (put_of (writer_of (lines_out_of result))) }
     {
-        Ok(Clients {
-            coming: ComingLines::make(alloc, source)?,
+        Clients {
+            coming: ComingLines::new(alloc, buffer, source),
             out: SaidLines::make(out),
             transcript: Transcript::make(alloc, transcript, head),
             hand_overs: HandOvers::new(hands),
-        })
+        }
     }
 
     /// What it was made over.

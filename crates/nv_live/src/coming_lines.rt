@@ -6,6 +6,7 @@ ghost use Rattle.nv_arrivals.specs.Arrivals.{is_arrival};
 ghost use Rattle.nv_arrivals.specs.Order.{most_clients, nothing_came};
 ghost use Rattle.nv_arrivals.specs.Reading.{arrival_of};
 ghost use Rattle.nv_arrivals.specs.Views.{view, result_view};
+ghost use Rattle.nv_live.specs.Buffer.{held_in};
 ghost use Rattle.nv_live.specs.ComingLines.{source_from, held_from, line_from, order_from, taken_from, asked_from, stop_from, is_plain, is_comment, is_hand, is_passed, stop_by_end, IsRefused, ComesOn, HandsOn, HasCome, IsWhole};
 
 use crate::buffer::Buffer;
@@ -77,24 +78,26 @@ fn is_passed(line: &[u8]) -> bool
 }
 
 impl<I: Source> ComingLines<I> {
-    pub fn make(alloc: Global, source: I) -> Result<ComingLines<I>, AllocError>
-        ensures source { IfOk result (λ coming. source_from coming ≡ source) }
-        ensures come { IfOk result (λ coming. HasCome I.took I.faults coming coming [] 0) }
-        ensures held { IfOk result (λ coming. held_from coming ≡ []) }
-        ensures line { IfOk result (λ coming. line_from coming ≡ []) }
-        ensures order { IfOk result (λ coming. order_from coming ≡ nothing_came (most_clients true)) }
-        ensures taken { IfOk result (λ coming. taken_from coming ≡ 0) }
-        ensures going { IfOk result (λ coming. stop_from coming ≡ None) }
+    pub fn new(alloc: Global, buffer: Buffer, source: I) -> ComingLines<I>
+        requires { held_in buffer ≡ [] }
+        ensures source { source_from result ≡ source }
+        ensures come { HasCome I.took I.faults result result [] 0 }
+        ensures held { held_from result ≡ [] }
+        ensures line { line_from result ≡ [] }
+        ensures order { order_from result ≡ nothing_came (most_clients true) }
+        ensures taken { taken_from result ≡ 0 }
+        ensures asked { asked_from result ≡ false }
+        ensures going { stop_from result ≡ None }
     {
-        Ok(ComingLines {
+        ComingLines {
             source,
-            buffer: Buffer::make(alloc)?,
+            buffer,
             line: Vec::new(alloc),
             order: Order::new(alloc, true),
             taken: 0,
             asked: false,
             stopped: None,
-        })
+        }
     }
 
     pub fn stopped(&self) -> Option<Stopped>

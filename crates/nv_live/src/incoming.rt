@@ -1,6 +1,7 @@
 // What comes, read from a source.
 ghost use Rattle.std.specs.Prelude.{◌≡◌, ◌<◌, ◌++◌, ◌∷◌, [], ℕ, List, Some, None, IfOk, length, drop, true, false, is_some};
 ghost use Rattle.nv_arrivals.specs.Arrivals.{Input};
+ghost use Rattle.nv_live.specs.Buffer.{held_in};
 ghost use Rattle.nv_live.specs.Incoming.{source_in, held_of, stop_of, TakesOn};
 ghost use Rattle.nv_live.specs.Taking.{Took, stop_by, IsFirst};
 
@@ -43,16 +44,17 @@ fn stop_by(read: Read) -> Option<Stopped>
 }
 
 impl<I: Source> Incoming<I> {
-    pub fn make(alloc: Global, source: I) -> Result<Incoming<I>, AllocError>
-        ensures source { IfOk result (λ incoming. source_in incoming ≡ source) }
-        ensures held { IfOk result (λ incoming. held_of incoming ≡ []) }
-        ensures going { IfOk result (λ incoming. stop_of incoming ≡ None) }
+    pub fn new(buffer: Buffer, source: I) -> Incoming<I>
+        requires { held_in buffer ≡ [] }
+        ensures source { source_in result ≡ source }
+        ensures held { held_of result ≡ [] }
+        ensures going { stop_of result ≡ None }
     {
-        Ok(Incoming {
+        Incoming {
             source,
-            buffer: Buffer::make(alloc)?,
+            buffer,
             stopped: None,
-        })
+        }
     }
 
     pub fn stopped(&self) -> Option<Stopped>

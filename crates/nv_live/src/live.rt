@@ -2,6 +2,7 @@
 ghost use Rattle.std.specs.Prelude.{◌≡◌, ◌<◌, ◌∷◌, [], Ok, None, IfOk, IsOk, length, true, is_some};
 ghost use Rattle.nv_arrivals.specs.Doings.{Says};
 ghost use Rattle.nv_arrivals.specs.Views.{said_view, taking};
+ghost use Rattle.nv_live.specs.Buffer.{held_in};
 ghost use Rattle.nv_live.specs.Incoming.{source_in, held_of, stop_of};
 ghost use Rattle.nv_live.specs.Lines.{held_text};
 ghost use Rattle.nv_live.specs.Live.{incoming_of, out_of, transcript_of, stop_in, Did, DoesOn, took_first, plain_bytes};
@@ -10,6 +11,7 @@ ghost use Rattle.nv_outside.specs.Sink.{Puts};
 ghost use Rattle.nv_live.specs.Writer.{sink_in, put_of, WritesOn};
 
 use crate::Source;
+use crate::buffer::Buffer;
 use crate::incoming::{Incoming, Stopped};
 use crate::transcript::Transcript;
 use crate::writer::Writer;
@@ -36,27 +38,29 @@ fn plain_bytes<'a>(said: &'a Said<'_>) -> &'a [u8]
 }
 
 impl<I: Source, O: Sink + Drop, T: Sink + Drop> Live<I, O, T> {
-    /// Nothing was read yet and nothing said. The transcript begins with this text.
-    pub fn make(
+    // Nothing was read yet and nothing said. The transcript begins with this text.
+    pub(crate) fn new(
         alloc: Global,
+        buffer: Buffer,
         source: I,
         out: O,
         transcript: T,
         head: &[u8],
-    ) -> Result<Live<I, O, T>, AllocError>
-        ensures did { IfOk result (λ live. Did I.took I.faults O.told O.faults T.told T.faults live live []) }
-        ensures source { IfOk result (λ live. source_in (incoming_of live) ≡ source) }
-        ensures out { IfOk result (λ live. sink_in (out_of live) ≡ out) }
-        ensures head { IfOk result (λ live. Puts (T.told transcript) (T.faults transcript) head.now (put_of (writer_in (transcript_of live))) (T.told (sink_in (writer_in (transcript_of live)))) (T.faults (sink_in (writer_in (transcript_of live))))) }
-        ensures held { IfOk result (λ live. held_of (incoming_of live) ≡ []) }
-        ensures going { IfOk result (λ live. stop_of (incoming_of live) ≡ None) }
-        ensures whole { IfOk result (λ live. IsOk (put_of (out_of live))) }
+    ) -> Live<I, O, T>
+        requires { held_in buffer ≡ [] }
+        ensures did { Did I.took I.faults O.told O.faults T.told T.faults result result [] }
+        ensures source { source_in (incoming_of result) ≡ source }
+        ensures out { sink_in (out_of result) ≡ out }
+        ensures head { Puts (T.told transcript) (T.faults transcript) head.now (put_of (writer_in (transcript_of result))) (T.told (sink_in (writer_in (transcript_of result)))) (T.faults (sink_in (writer_in (transcript_of result)))) }
+        ensures held { held_of (incoming_of result) ≡ [] }
+        ensures going { stop_of (incoming_of result) ≡ None }
+        ensures whole { IsOk (put_of (out_of result)) }
     {
-        Ok(Live {
-            incoming: Incoming::make(alloc, source)?,
+        Live {
+            incoming: Incoming::new(buffer, source),
             out: Writer::make(out),
             transcript: Transcript::make(alloc, transcript, head),
-        })
+        }
     }
 
     /// What it was made over.

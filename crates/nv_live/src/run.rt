@@ -1,11 +1,13 @@
 // The outside of a live run, of either way.
-ghost use Rattle.std.specs.Prelude.{◌≡◌, IfOk, IsTrue, Ok, None};
+ghost use Rattle.std.specs.Prelude.{◌≡◌, [], IfOk, IfErr, IsTrue, Ok, None};
 ghost use Rattle.nv_outside.specs.Sink.{Puts};
+ghost use Rattle.nv_live.specs.Buffer.{held_in};
 ghost use Rattle.nv_live.specs.Lines.{held_text};
 ghost use Rattle.nv_live.specs.Run.{input_of, output_of, notes_of, line_of, held_by, source_stop, stop_of_run, told_run, DidRun, IsBegun, IsOver};
 ghost use Rattle.nv_live.specs.Writer.{sink_in, put_of, WritesOn};
 ghost use Rattle.nv_script.specs.Scripts.{are_hands};
 
+use crate::buffer::Buffer;
 use crate::clients::Clients;
 use crate::incoming::Stopped;
 use crate::live::Live;
@@ -24,16 +26,36 @@ pub enum LiveRun<I, O, T> {
 
 impl<I: Source, O: Sink + Drop, T: Sink + Drop> LiveRun<I, O, T> {
     /// Nothing was read yet and nothing said. The transcript begins with this text, as much of it as can be written, which plans these lengths to
-    /// hand over at.
+    /// hand over at. Where memory is wanted the streams come back as they were.
     pub fn begin(
         alloc: Global,
         clients: bool,
         streams: Streams<I, O, T>,
         head: &[u8],
         hands: &[u32],
-    ) -> Result<LiveRun<I, O, T>, AllocError>
+    ) -> Result<LiveRun<I, O, T>, Streams<I, O, T>>
         requires { IsTrue (are_hands hands.now) }
-        ensures { IfOk result (λ run. IsBegun I.took I.faults O.told O.faults T.told T.faults clients head.now hands.now streams (told_run I.took I.faults O.told O.faults T.told T.faults run)) }
+        ensures begun { IfOk result (λ run. IsBegun I.took I.faults O.told O.faults T.told T.faults clients head.now hands.now streams (told_run I.took I.faults O.told O.faults T.told T.faults run)) }
+        ensures same { IfErr result (λ given. given ≡ streams) }
+    {
+        let Ok(buffer) = Buffer::make(alloc) else {
+            return Err(streams);
+        };
+        Ok(LiveRun::over(alloc, buffer, clients, streams, head, hands))
+    }
+
+    // The same with memory for what a read gives.
+    fn over(
+        alloc: Global,
+        buffer: Buffer,
+        clients: bool,
+        streams: Streams<I, O, T>,
+        head: &[u8],
+        hands: &[u32],
+    ) -> LiveRun<I, O, T>
+        requires hands { IsTrue (are_hands hands.now) }
+        requires empty { held_in buffer ≡ [] }
+        ensures { IsBegun I.took I.faults O.told O.faults T.told T.faults clients head.now hands.now streams (told_run I.took I.faults O.told O.faults T.told T.faults result) }
     {
         let Streams {
             input,
@@ -41,11 +63,11 @@ impl<I: Source, O: Sink + Drop, T: Sink + Drop> LiveRun<I, O, T> {
             transcript,
         } = streams;
         if clients {
-            let run = Clients::make(alloc, input, output, transcript, head, hands)?;
-            return Ok(LiveRun::Clients(run));
+            let run = Clients::new(alloc, buffer, input, output, transcript, head, hands);
+            return LiveRun::Clients(run);
         }
-        let run = Live::make(alloc, input, output, transcript, head)?;
-        Ok(LiveRun::Plain(run))
+        let run = Live::new(alloc, buffer, input, output, transcript, head);
+        LiveRun::Plain(run)
     }
 
     /// Why nothing more comes.

@@ -300,7 +300,8 @@ fn kept_server<R: Abort>(rt: &R, alloc: Global) -> KeptKernel<Clients>
 fn live_server<R: Abort>(rt: &R, alloc: Global) -> ArrivingKernel<Clients>
     ensures { result.log ≡ [] }
 {
-    arriving(alloc, &script_of(rt, alloc), made_clients(alloc)).expect(rt, "a kernel")
+    let made = arriving(alloc, &script_of(rt, alloc), made_clients(alloc));
+    made.ok().expect(rt, "a kernel")
 }
 
 // What is done while they are served: each is answered before the next thing is asked for.

@@ -30,7 +30,10 @@ pub fn make_kept<O: Outside + Telling + Send>(
     ensures { IfOk result (λ k. k.log ≡ []) }
 {
     let guests = Guests::make(alloc, script, outside, true)?;
-    Kernel::over(alloc, script, Kept { guests })
+    match Kernel::over(alloc, script, Kept { guests }) {
+        Ok(kernel) => Ok(kernel),
+        Err(_) => Err(AllocError),
+    }
 }
 
 impl<O: Outside + Telling + Send> Answers for Kept<O> {

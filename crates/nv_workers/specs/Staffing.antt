@@ -1,5 +1,5 @@
 -- Workers as they are made.
-use Rattle.std.specs.Prelude.{◌≡◌, ℕ, ◌+◌, ◌≤◌, List, [], ◌∷◌}
+use Rattle.std.specs.Prelude.{◌≡◌, ℕ, ◌+◌, ◌≤◌, List, [], ◌∷◌, vec_len, vec_capacity}
 use Rattle.nv_served.specs.declared.kernel.SyscallKernel.{Ghosts}
 use Rattle.nv_room.specs.declared.room.Room.{Room}
 use Rattle.nv_room.specs.declared.room.Reader.{Reader}
@@ -8,11 +8,20 @@ use Rattle.nv_room.specs.Seats.{IsFreshLead, IsFreshReader, FreshReaders, kernel
 use Rattle.nv_threads.specs.Threads.{Proc, threads}
 use Rattle.nv_replay.specs.Follow.{Judge}
 use Rattle.nv_replay.specs.Version.{Running, IsFresh}
+use Rattle.nv_workers.specs.declared.staffing.Stock.{Stock}
 use Rattle.nv_workers.specs.declared.worker.Worker.{Worker}
 use Rattle.nv_workers.specs.Worker.{Works, version_of}
 use Rattle.nv_workers.specs.Measure.{MOST_TURNS, turns_left}
 
 module _ {K : Type 0} {G : Ghosts K} where
+  -- memory for the workers of so many versions, and for what is left of them
+  pub record HasMemoryFor (count : ℕ) (stock : Stock K G) : Type 0 where
+    pub bufs : count ≤ vec_len stock.bufs
+    pub none_yet : stock.workers.items ≡ []
+    pub workers : count ≤ vec_capacity stock.workers
+    pub none_ended : (stock.versions.items ≡ []) × (stock.left.items ≡ [])
+    pub ended : (count ≤ vec_capacity stock.versions) × (count ≤ vec_capacity stock.left)
+
   -- the lead as the room's making gave it
   pub record IsLeadAsMade (room : Room K) (l : Lead K G) : Type 0 where
     pub fresh : IsFreshLead room l

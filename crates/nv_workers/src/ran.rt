@@ -2,6 +2,8 @@
 ghost use Rattle.std.specs.Prelude.{◌≡◌, ◌≤◌, ◌<◌, ◌+◌, ◌++◌, ℕ, List, [], false, map, length, vec_len, vec_capacity, IfOk, IfErr};
 ghost use Rattle.nv_calls.specs.Logs.{Start};
 ghost use Rattle.nv_threads.specs.Threads.{Proc, threads};
+ghost use Rattle.nv_threads.specs.Threads.{threads as host};
+ghost use Rattle.nv_replay.specs.Account.{AreFresh};
 ghost use Rattle.nv_replay.specs.Follow.{Judge};
 ghost use Rattle.nv_replay.specs.LettingGo.{NoneLetGo};
 ghost use Rattle.nv_replay.specs.Version.{Running, standing_of};
@@ -9,16 +11,17 @@ ghost use Rattle.nv_room.specs.Seats.{versions_of, hands_of, on_demand_of, origi
 ghost use Rattle.nv_workers.specs.Ends.{IsAccount};
 ghost use Rattle.nv_workers.specs.Terms.{AreOfRoom, judges_of};
 ghost use Rattle.nv_workers.specs.inner.Rounds.{CanAll, AllOn, AreGone};
-ghost use Rattle.nv_workers.specs.Staffing.{AreNew};
+ghost use Rattle.nv_workers.specs.Staffing.{AreNew, AreAsMade, HasMemoryFor};
 ghost use Rattle.nv_workers.specs.Ran.{AllRan, AreApart};
 
 use crate::dealing::deal;
 use crate::gate::Gate;
 use crate::running::rotate;
+use crate::staffing::{Stock, staff_with};
 use crate::terms::Terms;
 use crate::worker::{Seat, Worker};
 use nv_replay::{Account, Version};
-use nv_room::{Ended, Left, Room};
+use nv_room::{Ended, Lead, Left, Reader, Room};
 use nv_served::SyscallKernel;
 use std::alloc::{AllocError, Global};
 use std::sync::Wait;
@@ -52,7 +55,7 @@ pub fn run_all<R: Threads + Wait + Sync, K: SyscallKernel, G: Gate + Sync>(
     rt: &R,
     alloc: Global,
     room: Room<K>,
-    mut workers: Vec<Worker<K>>,
+    workers: Vec<Worker<K>>,
     terms: &Terms<'_, G>,
     threads: u32,
 ) -> Result<Ran<K>, NotRun<K>>
@@ -63,16 +66,66 @@ pub fn run_all<R: Threads + Wait + Sync, K: SyscallKernel, G: Gate + Sync>(
     ensures ran { IfOk result (λ r. (fresh : List (Running Proc)) → AreNew room 0 fresh workers.items → AllRan (judges_of terms.now) r.room terms.now.most fresh r.versions.items r.left.items) }
     ensures not_run { IfErr result (λ given. (given.room ≡ room) × (given.workers ≡ workers)) }
 {
-    let Ok((mut versions, mut left)) = lists_for(alloc, workers.len()) else {
+    let Ok((versions, left)) = lists_for(alloc, workers.len()) else {
         return Err(NotRun { room, workers });
     };
+    Ok(run_workers(rt, room, workers, versions, left, terms, threads))
+}
+
+// The same with empty lists, which have memory for what is left of the workers.
+fn run_workers<R: Threads + Wait + Sync, K: SyscallKernel, G: Gate + Sync>(
+    rt: &R,
+    room: Room<K>,
+    mut workers: Vec<Worker<K>>,
+    mut versions: Vec<Version>,
+    mut left: Vec<Left<K>>,
+    terms: &Terms<'_, G>,
+    threads: u32,
+) -> Ran<K>
+    requires new { (fresh : List (Running Proc)) × AreNew room 0 fresh workers.items }
+    requires all { vec_len workers ≡ versions_of room }
+    requires terms { AreOfRoom room terms.now }
+    requires empty { (versions.items ≡ []) × (left.items ≡ []) }
+    requires room { (vec_len workers ≤ vec_capacity versions) × (vec_len workers ≤ vec_capacity left) }
+    ensures room { result.room ≡ room }
+    ensures ran { (fresh : List (Running Proc)) → AreNew room 0 fresh workers.items → AllRan (judges_of terms.now) result.room terms.now.most fresh result.versions.items result.left.items }
+{
     run_beside(rt, &mut workers, &room, terms, threads);
     take_apart(workers, &mut versions, &mut left);
-    Ok(Ran {
+    Ran {
         room,
         left,
         versions,
-    })
+    }
+}
+
+/// Staffs a room as it was made, and runs its versions until all have ended, on so many host threads. It takes no memory of its own.
+pub fn run_staffed<R: Threads + Wait + Sync, K: SyscallKernel, G: Gate + Sync>(
+    rt: &R,
+    stock: Stock<K>,
+    versions: Vec<Version>,
+    made: (Room<K>, Vec<Reader<K>>, Lead<K>),
+    terms: &Terms<'_, G>,
+    threads: u32,
+) -> Ran<K>
+    requires memory { HasMemoryFor (length versions.items) stock }
+    requires fresh { AreFresh host 0 versions.items }
+    requires seats { AreAsMade made.0 made.1.items made.2 }
+    requires each { length versions.items ≡ length made.1.items + 1 }
+    requires all { length versions.items ≡ versions_of made.0 }
+    requires terms { AreOfRoom made.0 terms.now }
+    ensures room { result.room ≡ made.0 }
+    ensures ran { AllRan (judges_of terms.now) result.room terms.now.most versions.items result.versions.items result.left.items }
+{
+    let Stock {
+        bufs,
+        workers,
+        versions: ended,
+        left,
+    } = stock;
+    let (room, readers, lead) = made;
+    let workers = staff_with(bufs, workers, versions, readers, lead);
+    run_workers(rt, room, workers, ended, left, terms, threads)
 }
 
 /// What is left of workers that have taken their turns one by one, once all have left.
@@ -96,7 +149,7 @@ pub fn gather<K: SyscallKernel>(
 }
 
 // Empty lists, with memory for what is left of so many workers.
-fn lists_for<K: SyscallKernel>(
+pub(crate) fn lists_for<K: SyscallKernel>(
     alloc: Global,
     workers: usize,
 ) -> Result<(Vec<Version>, Vec<Left<K>>), AllocError>

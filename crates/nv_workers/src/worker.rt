@@ -68,21 +68,30 @@ pub struct Worker<K: SyscallKernel> {
 
 impl<K: SyscallKernel> Worker<K> {
     /// The version that leads first, with the lead of a room as it was made; memory is for one event.
-    pub fn lead(alloc: Global, mut version: Version, lead: Lead<K>) -> Result<Worker<K>, AllocError>
+    pub fn lead(alloc: Global, version: Version, lead: Lead<K>) -> Result<Worker<K>, AllocError>
         requires fresh { IsFresh threads 0 version }
         requires seat { IsNewLead lead }
         ensures { IfOk result (LeadsAnew version lead) }
     {
         let buf = EventBuf::make(alloc)?;
+        Ok(Worker::leading(buf, version, lead))
+    }
+
+    // The same with memory for one event.
+    pub(crate) fn leading(buf: EventBuf, mut version: Version, lead: Lead<K>) -> Worker<K>
+        requires fresh { IsFresh threads 0 version }
+        requires seat { IsNewLead lead }
+        ensures { LeadsAnew version lead result }
+    {
         version.begin_lead();
         let seat = Seat::Leading { lead, asked: None };
         let spare = MOST_AHEAD;
-        Ok(Worker {
+        Worker {
             version,
             seat,
             buf,
             spare,
-        })
+        }
     }
 
     /// A version that follows, with the reader of its station as it was made; memory is for one event.
@@ -96,17 +105,26 @@ impl<K: SyscallKernel> Worker<K> {
         ensures { IfOk result (ReadsAnew version reader) }
     {
         let buf = EventBuf::make(alloc)?;
+        Ok(Worker::reading(buf, version, reader))
+    }
+
+    // The same with memory for one event.
+    pub(crate) fn reading(buf: EventBuf, version: Version, reader: Reader<K>) -> Worker<K>
+        requires fresh { IsFresh threads (version_of_reader reader) version }
+        requires seat { IsNewReader reader }
+        ensures { ReadsAnew version reader result }
+    {
         let seat = Seat::Reading {
             reader,
             held: false,
         };
         let spare = MOST_AHEAD;
-        Ok(Worker {
+        Worker {
             version,
             seat,
             buf,
             spare,
-        })
+        }
     }
 
     /// One turn: at most one event is consumed or served. A version that was a stage of its run, fresh with some process, is one

@@ -1,5 +1,5 @@
 -- A live run, step by step.
-use Rattle.std.specs.Prelude.{◌≡◌, ◌≤◌, ◌⊎◌, ℕ, Bool, false, List, [], Option, None, Some, IsTrue, length, map}
+use Rattle.std.specs.Prelude.{◌≡◌, ◌≤◌, ◌⊎◌, ℕ, Bool, false, List, [], Option, IsTrue, length, map}
 use Rattle.nv_arrivals.specs.Arrivals.{Arrival}
 use Rattle.nv_arriving.specs.Arriving.{start_of_arrivals}
 use Rattle.nv_arriving.specs.Kernel.{Coming, begun_in}
@@ -14,6 +14,7 @@ use Rattle.nv_live.specs.declared.run.LiveRun.{LiveRun}
 use Rattle.nv_live.specs.declared.streams.Streams.{Streams as Held}
 use Rattle.nv_live.specs.declared.writer.Writer.{Writer}
 use Rattle.nv_machine.specs.Guest.{Machine}
+use Rattle.nv_outside.specs.Sink.{Put, Puts}
 use Rattle.nv_replay.specs.Account.{AreFresh}
 use Rattle.nv_replay.specs.Follow.{judge_of}
 use Rattle.nv_replay.specs.Sequence.{Account}
@@ -25,10 +26,11 @@ use Rattle.nv_script.specs.Views.{setup_of}
 use Rattle.nv_threads.specs.Threads.{Proc, threads}
 use Rattle.nv_driver.specs.Account.{IsRunOf, process_begun, run_status}
 use Rattle.nv_driver.specs.Due.{Says}
-use Rattle.nv_driver.specs.Live.{Lived, Streams, with_arrivals, with_hands, ending_of}
+use Rattle.nv_driver.specs.Live.{Lived, Unserved, Streams, with_arrivals, with_hands, ending_of}
 use Rattle.nv_driver.specs.Outcome.{NoMemory, text_of}
 use Rattle.nv_driver.specs.Refusals.{IsPlanned}
 use Rattle.nv_driver.specs.declared.ending.Ending.{Ending}
+use Rattle.nv_driver.specs.declared.ending.Ending.TheVariants.{Finished}
 use Rattle.nv_driver.specs.declared.live.LivePrepared.{LivePrepared}
 use Rattle.nv_cli.specs.inner.Demands.{IsAccountOnDemand}
 
@@ -49,6 +51,18 @@ module _ {I O T : Type 0} (took : I → Option (List (List ℕ))) (unread : I �
     pub empty : k.log ≡ []
     pub setup_is : k.setup ≡ setup
     pub begun : IsBegun took unread said unsaid noted unnoted clients head setup.hands streams (told k.answers.begun)
+    pub still : k.answers.outside ≡ k.answers.begun
+
+  -- Streams that nobody was served over: they have nothing more than these, but that the transcript may have this head.
+  pub record IsUnused (head : List ℕ) (streams given : Held I O T) : Type 0 where
+    pub read : took given.input ≡ took streams.input
+    pub unread_is : unread given.input ≡ unread streams.input
+    pub said_is : said given.output ≡ said streams.output
+    pub unsaid_is : unsaid given.output ≡ unsaid streams.output
+    pub text : List ℕ
+    pub begins : (text ≡ []) ⊎ (text ≡ head)
+    pub told_so_far : Put
+    pub noted_is : Puts (noted streams.transcript) (unnoted streams.transcript) text told_so_far (noted given.transcript) (unnoted given.transcript)
 
 -- the versions ran over what came to this kernel
 pub record RanOver {X T : Type 0} (told : X → T) (clients : Bool) (kernel : Logged (Coming X)) (rules : Option (List Op)) (calls : ℕ) (hands : List ℕ) (versions : List (Running Proc)) (account : Ran (Logged (Coming X))) : Type 0 where
@@ -65,21 +79,18 @@ pub record HasLeft {I O T : Type 0} (noted : T → Option (List ℕ)) (unnoted :
   pub ends : ending ≡ ending_of (stop_of_run live) (put_of (output_of live)) (put_of notes)
 
 -- The versions ran over what came, nothing was written beside their streams, and these are left.
-pub record Served (limits : Limits) (clients : Bool) (setup : Setup) (rules : Option (List Op)) (machines : List Machine) (streams : Streams) (before : Option (List ℕ)) (faults status : ℕ) (after : Option (List ℕ)) (later_faults : ℕ) (left : Option (Streams × Ending)) : Type 0 where
+pub record Served (limits : Limits) (clients : Bool) (setup : Setup) (rules : Option (List Op)) (machines : List Machine) (streams : Streams) (before : Option (List ℕ)) (faults status : ℕ) (after : Option (List ℕ)) (later_faults : ℕ) (left : Streams × Ending) : Type 0 where
   pub arrivals : List Arrival
   pub asked : List ℕ
   pub account : Account
   pub only : clients ≡ false → asked ≡ []
   pub is_run : IsRunOf clients limits (with_hands (with_arrivals setup arrivals) asked) rules machines account
   pub says : Says [] (run_status account.lines) before faults status after later_faults
-  pub later : Streams
-  pub ending : Ending
-  pub left_is : left ≡ Some (later, ending)
-  pub lived : Lived clients (with_arrivals setup arrivals) account.log ending streams later
+  pub lived : Lived clients (with_arrivals setup arrivals) account.log left.1 streams left.0
 
--- That is so, or memory was wanted and the streams are gone.
-abbrev pub ServeSays : Limits → Bool → LivePrepared → Streams → Option (List ℕ) → ℕ → ℕ → Option (List ℕ) → ℕ → Option (Streams × Ending) → Type 0
+-- That is so, or memory was wanted and nobody was served.
+abbrev pub ServeSays : Limits → Bool → LivePrepared → Streams → Option (List ℕ) → ℕ → ℕ → Option (List ℕ) → ℕ → Streams × Ending → Type 0
 ServeSays limits clients prepared streams before faults status after later_faults left = (machines : List Machine) → map process_of prepared.versions.items ≡ map (process_begun limits (setup_of prepared.script)) machines
     → IsTranscript prepared.head.items (setup_of prepared.script) → (setup_of prepared.script).arrivals ≡ []
     → Served limits clients (setup_of prepared.script) prepared.rules machines streams before faults status after later_faults left
-    ⊎ (Says (text_of NoMemory) 3 before faults status after later_faults × (left ≡ None))
+    ⊎ (Says (text_of NoMemory) 3 before faults status after later_faults × Unserved streams left.0 × (left.1 ≡ Finished))

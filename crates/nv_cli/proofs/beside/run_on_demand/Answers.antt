@@ -16,44 +16,33 @@ returns-then-is_empty-clause-account g c =
     (search rules) c.requires.empty)
     (none_let_go c.args.versions.items (search rules))
 
-pub staff-requires-clause-seats : goal.staff-requires-clause-seats
-staff-requires-clause-seats g c κs within =
-    let m = c.in_ok-room.ensures in
-    (c.in_ok-room.room, as_made c.in_ok-room.room c.in_ok-room.readers.items c.in_ok-room.lead m.readers.1 m.lead m.log)
+pub run_staffed-ran-requires-clause-seats : goal.run_staffed-ran-requires-clause-seats
+run_staffed-ran-requires-clause-seats g c κs within =
+    let m = c.in-Ok-make_with.ensures in
+    let made = c.in-Ok-make_with.made in
+    as_made made.0 made.1.items made.2 m.readers.1 m.lead m.log
 
-pub run_all-requires-clause-new : goal.run_all-requires-clause-new
-run_all-requires-clause-new g c κs within =
-    let m = c.in_ok-room.ensures in (
-      c.args.versions.items,
-      c.in_ok-workers.ensures.new c.in_ok-room.room
-          (as_made c.in_ok-room.room c.in_ok-room.readers.items c.in_ok-room.lead m.readers.1 m.lead m.log),
-    )
-
-pub run_all-requires-clause-terms : goal.run_all-requires-clause-terms
-run_all-requires-clause-terms g c κs within = record { most = c.args.limits.calls_fit.1; hands = search rules }
+pub run_staffed-ran-requires-clause-terms : goal.run_staffed-ran-requires-clause-terms
+run_staffed-ran-requires-clause-terms g c κs within = record { most = c.args.limits.calls_fit.1; hands = search rules }
 
 pub end-requires-after_bounds : goal.end-requires-after_bounds
-end-requires-after_bounds g c κs within =
-    let m = c.in_ok-room.ensures in (
-      judge_of (option_map (λ f. f.now) c.args.rules),
-      c.args.limits.calls,
-      c.args.versions.items,
-      c.in_ok-ran.ensures.ran c.args.versions.items (c.in_ok-workers.ensures.new c.in_ok-room.room
-          (as_made c.in_ok-room.room c.in_ok-room.readers.items c.in_ok-room.lead m.readers.1 m.lead m.log)),
-    )
+end-requires-after_bounds g c κs within = (
+  judge_of (option_map (λ f. f.now) c.args.rules),
+  c.args.limits.calls,
+  c.args.versions.items,
+  c.run_staffed-ran.ensures.ran,
+)
 
 pub returns-clause-account : goal.returns-clause-account
 returns-clause-account g c =
-    let m = c.in_ok-room.ensures in
+    let m = c.in-Ok-make_with.ensures in
     let judges = judge_of (option_map (λ f. f.now) c.args.rules) in
-    let room = c.in_ok-ran.ensures.room in
-    let a = c.end.ensures.account judges c.args.limits.calls c.args.versions.items (c.in_ok-ran.ensures.ran c.args.versions.items (c.in_ok-workers.ensures.new c.in_ok-room.room
-    (as_made c.in_ok-room.room c.in_ok-room.readers.items c.in_ok-room.lead m.readers.1 m.lead m.log))) in
+    let room = c.run_staffed-ran.ensures.room in
+    let a = c.end.ensures.account judges c.args.limits.calls c.args.versions.items c.run_staffed-ran.ensures.ran in
     record {
       asked = a.0;
       only = λ off. a.1 (ap on_demand_of room ∙ m.on_demand ∙ off);
-      stays = λ off. c.end.ensures.stays judges c.args.limits.calls c.args.versions.items (c.in_ok-ran.ensures.ran c.args.versions.items (c.in_ok-workers.ensures.new c.in_ok-room.room
-          (as_made c.in_ok-room.room c.in_ok-room.readers.items c.in_ok-room.lead m.readers.1 m.lead m.log))) (ap on_demand_of room ∙ m.on_demand ∙ off);
+      stays = λ off. c.end.ensures.stays judges c.args.limits.calls c.args.versions.items c.run_staffed-ran.ensures.ran (ap on_demand_of room ∙ m.on_demand ∙ off);
       is_account = subst (λ (hands : List ℕ). IsAccount threads judges (g.K.SyscallKernel.known c.end.result.kernel) c.args.limits.calls (hands ++ a.0) c.args.versions.items c.end.result.versions.items
           (g.K.SyscallKernel.log c.end.result.kernel)) (ap hands_of room ∙ m.hands) a.2;
     }

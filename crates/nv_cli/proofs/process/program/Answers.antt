@@ -1,9 +1,9 @@
-use Rattle.std.proofs.Common.{◌∙◌, ap, subst, List, ℕ}
+use Rattle.std.proofs.Common.{ap, subst, List, ℕ}
 use Rattle.nv_outside.specs.Gathering.{with_held}
 use Rattle.nv_driver.specs.Outcome.{source_of}
-use Rattle.nv_cli.specs.Program.{ProgramAnswers, exit_of}
+use Rattle.nv_cli.specs.Program.{ProgramAnswers}
 use Rattle.nv_cli.specs.Streams.{streams_of, left_of}
-use Rattle.nv_cli.proofs.Finished.{endings_alike, program_finished, program_completes, program_rejects}
+use Rattle.nv_cli.proofs.Finished.{program_finished, program_completes, program_rejects}
 use Rattle.nv_cli.proofs.process.program.Goals as goal
 
 pub returns : goal.returns
@@ -24,7 +24,7 @@ returns g c =
     c.finish-sink.ensures.others in
     record {
       status = c.finish-sink.result.1;
-      code_is = c.exit_status-code.ensures ∙ ap (λ ending. exit_of ending c.finish-sink.result.1) (endings_alike g.I.Source.took g.I.Source.faults g.O.Sink.told g.O.Sink.faults g.T.Sink.told g.T.Sink.faults c.answer-status.result.1);
+      code_is = c.exit_status-code.ensures;
       answers = answers;
       completes = program_completes c.args.words source streams left _ _ _ _ _ answers;
       rejects = program_rejects c.args.words source streams left _ _ _ _ _ answers;

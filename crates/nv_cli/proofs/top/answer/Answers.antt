@@ -1,4 +1,4 @@
-use Rattle.std.proofs.Common.{◌≡◌, ◌∙◌, inl, inr, refl, ap, sym, subst, ℕ, List, Option, None, Some}
+use Rattle.std.proofs.Common.{◌≡◌, ◌∙◌, inr, refl, ap, sym, subst, ℕ, List, Option, None, Some}
 use Rattle.nv_command.specs.Words.{Command, Service, Runs, Serves, Uses, Generates, Records, Replays, Inspects, Helps, command_of, texts}
 use Rattle.nv_command.specs.Seen.{WordsRefused, command_view}
 use Rattle.nv_command.specs.declared.asked.LineFault.{LineFault}
@@ -11,23 +11,23 @@ use Rattle.nv_driver.specs.Tasks.{fault_outcome}
 use Rattle.nv_driver.specs.declared.ending.Ending.{Ending}
 use Rattle.nv_driver.specs.declared.ending.Ending.TheVariants.{Finished}
 use Rattle.nv_command.proofs.Within.{generated_within}
-use Rattle.nv_driver.proofs.Commands.{made_answers, nothing_over, words_refused}
+use Rattle.nv_driver.proofs.Commands.{made_answers, nothing_over, unserved, words_refused}
 use Rattle.nv_cli.specs.Streams.{streams_of, left_of}
 use Rattle.nv_cli.proofs.top.answer.Goals as goal
 
 -- an answer of another command than a live run's, with the streams as they were
-untouched : (words : List (List ℕ)) (source : Source) (streams : Streams) (before : Option (List ℕ)) (faults status told : ℕ) (after : Option (List ℕ)) (later : ℕ) (left : Option (Streams × Ending))
-    → ((service : Service) → command_of words ≡ Some (Serves service) → ⊥) → status ≡ told → left ≡ Some (streams, Finished) → Answers words source before faults told after later
+untouched : (words : List (List ℕ)) (source : Source) (streams : Streams) (before : Option (List ℕ)) (faults status told : ℕ) (after : Option (List ℕ)) (later : ℕ) (left : Streams × Ending)
+    → ((service : Service) → command_of words ≡ Some (Serves service) → ⊥) → status ≡ told → left ≡ (streams, Finished) → Answers words source before faults told after later
     → AnswersOver words source streams before faults status after later left
 untouched words source streams before faults status told after later left other same kept a =
     subst (λ s. AnswersOver words source streams before faults s after later left) (sym same)
     (subst (λ l. AnswersOver words source streams before faults told after later l) (sym kept)
     (record { answers = a; over = nothing_over (command_of words) a.outcome streams other }))
 
-over_memory : (command : Option Command) (streams : Streams) → Over command NoMemory streams (Some (streams, Finished))
+over_memory : (command : Option Command) (streams : Streams) → Over command NoMemory streams (streams, Finished)
 over_memory None streams = refl
 over_memory (Some (Runs plan)) streams = refl
-over_memory (Some (Serves service)) streams = inl refl
+over_memory (Some (Serves service)) streams = (unserved streams, refl)
 over_memory (Some (Uses job)) streams = refl
 over_memory (Some (Generates n)) streams = refl
 over_memory (Some (Records plan)) streams = refl
@@ -38,7 +38,7 @@ over_memory (Some (Helps topic)) streams = refl
 -- refused words, with the streams as they were
 refused_over : (fault : LineFault) (words : List (List ℕ)) (source : Source) (streams : Streams) → WordsRefused fault words → IsUntouched source
     → (before : Option (List ℕ)) (faults status : ℕ) (after : Option (List ℕ)) (later : ℕ)
-    → Says (text_of (fault_outcome fault)) (outcome_status (fault_outcome fault)) before faults status after later → AnswersOver words source streams before faults status after later (Some (streams, Finished))
+    → Says (text_of (fault_outcome fault)) (outcome_status (fault_outcome fault)) before faults status after later → AnswersOver words source streams before faults status after later (streams, Finished)
 refused_over line.Usage words source streams refused still before faults status after later says = record {
   answers = words_refused line.Usage words source refused still before faults status after later says;
   over = nothing_over (command_of words) _ streams (λ service asked. let e : Some (Serves service) ≡ None = sym asked ∙ refused in cc);
@@ -50,7 +50,7 @@ refused_over line.Memory words source streams named still before faults status a
 
 -- the same of what a call gives back
 refused_left : (fault : LineFault) (words : List (List ℕ)) (source : Source) (streams : Streams) → WordsRefused fault words → IsUntouched source
-    → (before : Option (List ℕ)) (faults status told : ℕ) (after : Option (List ℕ)) (later : ℕ) (left : Option (Streams × Ending)) → status ≡ told → left ≡ Some (streams, Finished)
+    → (before : Option (List ℕ)) (faults status told : ℕ) (after : Option (List ℕ)) (later : ℕ) (left : Streams × Ending) → status ≡ told → left ≡ (streams, Finished)
     → Says (text_of (fault_outcome fault)) (outcome_status (fault_outcome fault)) before faults told after later → AnswersOver words source streams before faults status after later left
 refused_left fault words source streams refused still before faults status told after later left same kept says =
     subst (λ s. AnswersOver words source streams before faults s after later left) (sym same)

@@ -4,7 +4,7 @@ use Rattle.nv_workers.specs.Terms.{judges_of}
 use Rattle.nv_workers.specs.inner.Rounds.{CanAll, AllOn, AreGone}
 use Rattle.nv_workers.specs.Ran.{AreApart}
 use Rattle.nv_workers.proofs.Finishing.{can_new, all_ran}
-use Rattle.nv_workers.proofs.ran.run_all.Goals as goal
+use Rattle.nv_workers.proofs.ran.run_workers.Goals as goal
 
 pub run_beside-requires-clause-can : goal.run_beside-requires-clause-can
 run_beside-requires-clause-can g c κs within =

@@ -1,10 +1,10 @@
 use Rattle.std.proofs.Common.{refl, sym, ap, ◌∙◌}
 use Rattle.nv_live.specs.Run.{hands_by}
-use Rattle.nv_live.proofs.run.LiveRun.begin.Goals as goal
+use Rattle.nv_live.proofs.run.LiveRun.over.Goals as goal
 
 pub returns-then-clients : goal.returns-then-clients
 returns-then-clients g c =
-    let e = c.in_ok-run.ensures in
+    let e = c.new-run.ensures in
     record {
       way = sym c.if-clients.true;
       read = ap g.I.Source.took e.source;
@@ -24,7 +24,7 @@ returns-then-clients g c =
 
 pub returns : goal.returns
 returns g c =
-    let e = c.in_ok-run-2.ensures in
+    let e = c.new-run-2.ensures in
     record {
       way = sym c.if-clients.false;
       read = ap g.I.Source.took e.source;

@@ -1,5 +1,0 @@
-use Rattle.nv_workers.proofs.Making.{reads_anew}
-use Rattle.nv_workers.proofs.worker.Worker.reader.Goals as goal
-
-pub returns : goal.returns
-returns g c = reads_anew c.args.version c.args.reader c.in_ok-buf.buf c.requires.fresh
