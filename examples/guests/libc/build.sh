@@ -57,7 +57,7 @@ calls() {
     local part library objects=()
     echo "building out/calls"
     mkdir -p out/calls
-    for part in start.S start.c calls.c descriptors.c sockets.c memory.c processes.c signals.c asserts.c threads.S threads.c waiting.c; do
+    for part in start.S start.c calls.c descriptors.c sockets.c epoll.c memory.c processes.c signals.c asserts.c threads.S threads.c waiting.c; do
         "$compiler" $machine -std=gnu11 -Os -Wall -Wextra -ffreestanding -fno-strict-aliasing -ffunction-sections -fdata-sections -nostdinc \
             -isystem out/guest/include -isystem "$("$compiler" -print-file-name=include)" -D_GNU_SOURCE -c -o "out/calls/$part.o" "$part"
         objects+=("out/calls/$part.o")

@@ -87,16 +87,36 @@ static long clone_process(long flags)
     return fork_process();
 }
 
+static long write_bytes(long fd, long bytes, long length)
+{
+    long written = KERNEL(SYS_write, fd, bytes, length);
+    if (written < length)
+        was_full(fd);
+    return written;
+}
+
+static long write_parts(long fd, const struct iovec *parts, long count)
+{
+    long left = KERNEL(SYS_writev, fd, parts, count), written = left;
+    for (long i = 0; i < count && left >= 0; i++)
+        left -= parts[i].iov_len;
+    if (written < 0 || left < 0)
+        was_full(fd);
+    return written;
+}
+
 static long send_message(long fd, const struct msghdr *message)
 {
-    return KERNEL(SYS_writev, fd, message->msg_iov, message->msg_iovlen);
+    return write_parts(fd, message->msg_iov, message->msg_iovlen);
 }
 
 /* read and readv */
 static long read_descriptor(long n, long fd, long bytes, long length)
 {
     wait_for_arrival(fd);
-    return KERNEL(n, fd, bytes, length);
+    long result = KERNEL(n, fd, bytes, length);
+    was_read(fd);
+    return result;
 }
 
 static long receive_message(long fd, struct msghdr *message)
@@ -130,13 +150,16 @@ static long socket_call(long n, long a, long b, long c, long d, long e, long f)
     case SYS_setsockopt: return own_address(a, NULL, NULL);
     case SYS_getsockopt: return socket_option(a, b, c, (void *)d, (void *)e);
     case SYS_shutdown: return on_connection(a);
-    case SYS_sendto: return KERNEL(SYS_write, a, b, c);
+    case SYS_sendto: return write_bytes(a, b, c);
     case SYS_recvfrom: return receive(a, (void *)b, c, d);
     case SYS_sendmsg: return send_message(a, (void *)b);
     case SYS_recvmsg: return receive_message(a, (void *)b);
     case SYS_sendfile64: return send_file(a, b, (void *)c, d);
     case SYS_ppoll_time64: return poll_descriptors((void *)a, b, (void *)c, (void *)d);
     case SYS_pselect6_time64: return select_descriptors(a, (void *)b, (void *)c, (void *)d, (void *)e, f ? *(const uint64_t **)f : NULL);
+    case SYS_epoll_create1: return new_epoll(a);
+    case SYS_epoll_ctl: return control_epoll(a, b, c, (void *)d);
+    case SYS_epoll_pwait: return wait_epoll(a, (void *)b, c, d, (void *)e);
     default: return KERNEL(n, a, b, c, d, e, f);
     }
 }
@@ -146,6 +169,8 @@ static long file_call(long n, long a, long b, long c, long d, long e, long f)
     switch (n) {
     case SYS_read:
     case SYS_readv: return read_descriptor(n, a, b, c);
+    case SYS_write: return write_bytes(a, b, c);
+    case SYS_writev: return write_parts(a, (void *)b, c);
     case SYS_openat: return open_file((void *)b, c, d);
     case SYS_unlinkat: return remove_file((void *)b, c);
     case SYS_close: return close_descriptor(a);
@@ -222,7 +247,7 @@ static long process_call(long n, long a, long b, long c, long d, long e, long f)
 
 static bool leaves_quiet(long n)
 {
-    return n == SYS_ppoll_time64 || n == SYS_pselect6_time64 || n == SYS_clock_gettime64 || n == SYS_rt_sigprocmask;
+    return n == SYS_ppoll_time64 || n == SYS_pselect6_time64 || n == SYS_epoll_pwait || n == SYS_clock_gettime64 || n == SYS_rt_sigprocmask;
 }
 
 static long answer(long n, long a, long b, long c, long d, long e, long f)

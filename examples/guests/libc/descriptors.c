@@ -73,11 +73,20 @@ void return_descriptors(void)
         }
 }
 
+/* Before a number is another's, or nobody's: as what is watched, and as what watches. */
+static void leave_what_watches(long fd)
+{
+    leave_epolls(fd);
+    if (descriptors[fd].epoll)
+        leave_epoll(descriptors[fd].epoll);
+}
+
 long close_descriptor(long fd)
 {
     struct descriptor *closed = descriptor_of(fd);
     if (!closed)
         return is_kept(fd) ? -EBADF : KERNEL(SYS_close, fd);
+    leave_what_watches(fd);
     if (closed->is_inherited && closed->kind != ANY_FILE) {
         closed->is_open = false;
         return 0;
@@ -109,9 +118,9 @@ static bool is_directory(const char *path)
     return *path && (!*name || !strcmp(name, ".."));
 }
 
-static uint64_t inode_of(const char *name)
+static uint32_t inode_of(const char *name)
 {
-    uint64_t inode = 1;
+    uint32_t inode = 1;
     while (*name)
         inode = inode * 31 + (unsigned char)*name++;
     return inode & 0x7fffffff;
@@ -148,7 +157,10 @@ long remove_file(const char *path, long flags)
 /* A copy of what the kernel has copied already. */
 static long copied(long fd, long number, bool closes_on_exec)
 {
+    leave_what_watches(number);
     descriptors[number] = descriptors[fd];
+    if (descriptors[number].epoll)
+        use_epoll(descriptors[number].epoll);
     descriptors[number].is_inherited = false;
     descriptors[number].closes_on_exec = closes_on_exec;
     return number;
@@ -270,6 +282,8 @@ long send_file(long to, long from, int64_t *offset, long length)
         if (part == 0)
             break;
         long written = part < 0 ? part : KERNEL(SYS_write, to, bytes, part);
+        if (written < part)
+            was_full(to);
         if (written < 0)
             return sent ? sent : written;
         sent += written;

@@ -30,7 +30,8 @@ struct descriptor {
     unsigned short peer; /* of a connection: the client's */
     int taken;           /* of a listener: the connection that a poll found, or 0 */
     int kept;            /* the number by which a child keeps what it closed for its parent, or 0 */
-    uint64_t inode;
+    uint32_t inode;
+    struct epoll *epoll; /* whose descriptor it is, or a null pointer */
 };
 
 /* The descriptor of this number, or a null pointer where it isn't open. */
@@ -74,9 +75,27 @@ void not_quiet(void);
 /* A wait with an end found nothing. */
 void nothing_came(void);
 
+/* pselect6 of these sets, of which either may be a null pointer; -ENOSYS where the kernel has none. */
+long select_sets(long most, void *readable, void *writable, const int64_t *timeout);
+
 /* A child begins, with its parent's descriptors; and ends. */
 void inherit_descriptors(void);
 void return_descriptors(void);
+
+/* ---- epoll (epoll.c) */
+
+struct epoll_event;
+long new_epoll(long flags);
+long control_epoll(long number, long operation, long fd, const struct epoll_event *event);
+long wait_epoll(long number, struct epoll_event *events, long most, long milliseconds, const uint64_t *mask);
+/* One more descriptor is this epoll's; one less. */
+void use_epoll(struct epoll *epoll);
+void leave_epoll(struct epoll *epoll);
+/* A number isn't watched any more. */
+void leave_epolls(long fd);
+/* After a call that reads or accepts; after one that had less room than it wanted: what was told with EPOLLET is told again. */
+void was_read(long fd);
+void was_full(long fd);
 
 /* ---- memory (memory.c) */
 
@@ -141,6 +160,11 @@ void wait_for_arrival(long fd);
 /* The kernel's ppoll, and its wait until then; if there are other threads, these go on. */
 long poll_with_others(struct pollfd *asked, long count, const int64_t *timeout);
 long sleep_with_others(long clock, long flags, const int64_t *time);
+/*
+ * A poll beside other threads up to this end, which also ends when one wakes those that wait at the word: -EAGAIN. -ENOSYS without other threads, with no time
+ * to wait, or where they don't go on meanwhile.
+ */
+long poll_watched(struct pollfd *asked, long count, const int64_t *timeout, int64_t end, const int *changes);
 /* The turn goes to threads that can go on, if there are some, and comes back. */
 void let_others_go_on(void);
 long yield(void);

@@ -111,6 +111,7 @@ long accept_client(long fd, void *address, unsigned *length, long flags)
     if (!client) {
         wait_for_arrival(fd);
         client = KERNEL(SYS_accept4, fd, 0, 0, flags & SOCK_NONBLOCK);
+        was_read(fd);
     }
     if (client == -EAGAIN && !listener->waits_not)
         end_of_waiting();
@@ -236,6 +237,11 @@ long sleep_until(long clock, long flags, const int64_t *time)
 static long select_by(struct selected *sets, const void *timeout)
 {
     return known(KERNEL(SYS_pselect6_time64, sets->most, sets->readable, sets->writable, sets->special, timeout));
+}
+
+long select_sets(long most, void *readable, void *writable, const int64_t *timeout)
+{
+    return polls_not ? -ENOSYS : known(KERNEL(SYS_pselect6_time64, most, readable, writable, 0, timeout));
 }
 
 static long poll_now(struct pollfd *asked, long count)

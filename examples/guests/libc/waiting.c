@@ -273,7 +273,7 @@ static long polled_by_others(void)
 static bool is_shared(long count, const int64_t *timeout)
 {
     bool waits = !timeout || (is_time(timeout) && nanoseconds(timeout) > 0);
-    return waits && count > 0 && count <= MOST_POLLED && has_threads() && kernel_polls() && polled_by_others() + count <= MOST_POLLED;
+    return waits && count <= MOST_POLLED && has_threads() && kernel_polls() && polled_by_others() + count <= MOST_POLLED;
 }
 
 /* One that found nothing may be asked again and again, for what another thread does. */
@@ -287,11 +287,21 @@ static long poll_alone(struct pollfd *asked, long count, const int64_t *timeout)
 
 long poll_with_others(struct pollfd *asked, long count, const int64_t *timeout)
 {
-    if (!is_shared(count, timeout))
+    if (count == 0 || !is_shared(count, timeout))
         return poll_alone(asked, count, timeout);
     for (long i = 0; i < count; i++)
         asked[i].revents = 0;
     return wait_with_others(&(struct waiter){.polled = asked, .count = count, .end = time_after(timeout)});
+}
+
+long poll_watched(struct pollfd *asked, long count, const int64_t *timeout, int64_t end, const int *changes)
+{
+    if (!is_shared(count, timeout))
+        return -ENOSYS;
+    long ready = wait_with_others(&(struct waiter){.word = changes, .polled = asked, .count = count, .end = end});
+    if (ready == -ETIMEDOUT)
+        return 0;
+    return ready == 0 ? -EAGAIN : ready;
 }
 
 long sleep_with_others(long clock, long flags, const int64_t *time)
