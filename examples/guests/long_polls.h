@@ -9,10 +9,15 @@
 /* The events of both names: POLLIN and POLLRDNORM, POLLOUT and POLLWRNORM. */
 enum { MOST_POLLED = 408, MOST_SELECTED = 1024, WORD_BITS = 32, WORDS = MOST_SELECTED / WORD_BITS, READS = 0x41, WRITES = 0x104 };
 
-/* The three sets of a pselect6, and one more than the highest number in them. */
+/*
+ * The three sets of a pselect6, and one more than the highest number in them. A list is plain where each of its numbers stands once and asks for bytes or for room:
+ * then its entries are found by the numbers that are ready, and the rest of the list isn't looked through again.
+ */
 struct selected {
     long most;
     uint32_t readable[WORDS], writable[WORDS], special[WORDS];
+    int is_plain;
+    unsigned short places[MOST_SELECTED];
 };
 
 /* Entries of a list that are asked about by one ppoll. */
@@ -29,13 +34,9 @@ static long poll_now(struct pollfd *asked, long count);
 __attribute__((optimize("no-tree-loop-distribute-patterns"))) static void clear_sets(struct selected *sets)
 {
     sets->most = 0;
+    sets->is_plain = 1;
     for (int i = 0; i < WORDS; i++)
         sets->readable[i] = sets->writable[i] = sets->special[i] = 0;
-}
-
-static void put_into(uint32_t *set, int fd)
-{
-    set[fd / WORD_BITS] |= 1u << fd % WORD_BITS;
 }
 
 static int is_within(const uint32_t *set, int fd)
@@ -44,27 +45,36 @@ static int is_within(const uint32_t *set, int fd)
 }
 
 /* An entry that asks for nothing is among the special ones, of which none is ever ready: so the kernel sees whether it is open. */
-static void select_entry(struct selected *sets, const struct pollfd *entry)
+static void select_entry(struct selected *sets, int fd, short events)
 {
-    if (entry->fd >= sets->most)
-        sets->most = entry->fd + 1;
-    if (entry->events & READS)
-        put_into(sets->readable, entry->fd);
-    if (entry->events & WRITES)
-        put_into(sets->writable, entry->fd);
-    if (!(entry->events & (READS | WRITES)))
-        put_into(sets->special, entry->fd);
+    unsigned word = (unsigned)fd / WORD_BITS;
+    uint32_t bit = 1u << fd % WORD_BITS;
+    if ((sets->readable[word] | sets->writable[word] | sets->special[word]) & bit || !(events & (READS | WRITES)))
+        sets->is_plain = 0;
+    if (events & READS)
+        sets->readable[word] |= bit;
+    if (events & WRITES)
+        sets->writable[word] |= bit;
+    if (!(events & (READS | WRITES)))
+        sets->special[word] |= bit;
 }
 
 /* Answers whether each number may be open. */
-static int select_all(struct selected *sets, const struct pollfd *asked, long count)
+static int select_all(struct selected *sets, struct pollfd *asked, long count)
 {
+    int most = 0;
     for (long i = 0; i < count; i++) {
-        if (asked[i].fd >= MOST_SELECTED)
+        int fd = asked[i].fd;
+        asked[i].revents = 0;
+        if (fd >= MOST_SELECTED)
             return 0;
-        if (asked[i].fd >= 0)
-            select_entry(sets, &asked[i]);
+        if (fd < 0)
+            continue;
+        most = fd >= most ? fd + 1 : most;
+        sets->places[fd] = i;
+        select_entry(sets, fd, asked[i].events);
     }
+    sets->most = most;
     return 1;
 }
 
@@ -75,6 +85,14 @@ static long poll_part(struct part *part)
         part->places[i]->revents = part->asked[i].revents;
     part->count = 0;
     return ready > 0 ? ready : 0;
+}
+
+/* Answers of how many something is told. */
+static long add_to_part(struct part *part, struct pollfd *entry)
+{
+    part->asked[part->count] = *entry;
+    part->places[part->count++] = entry;
+    return part->count == MOST_POLLED ? poll_part(part) : 0;
 }
 
 /* Without sets all are asked about. */
@@ -92,12 +110,22 @@ static long poll_found(const struct selected *found, struct pollfd *asked, long 
     long ready = part.count = 0;
     for (long i = 0; i < count; i++) {
         asked[i].revents = 0;
-        if (!is_asked(found, &asked[i]))
-            continue;
-        part.asked[part.count] = asked[i];
-        part.places[part.count++] = &asked[i];
-        if (part.count == MOST_POLLED)
-            ready += poll_part(&part);
+        if (is_asked(found, &asked[i]))
+            ready += add_to_part(&part, &asked[i]);
+    }
+    return ready + poll_part(&part);
+}
+
+/* The same for a plain list, of which nothing is told yet. */
+static long poll_plain(const struct selected *found, struct pollfd *asked)
+{
+    struct part part;
+    long ready = part.count = 0;
+    for (int word = 0; word * WORD_BITS < found->most; word++) {
+        uint32_t left = found->readable[word] | found->writable[word];
+        for (int fd = word * WORD_BITS; left; fd++, left >>= 1)
+            if (left & 1)
+                ready += add_to_part(&part, &asked[found->places[fd]]);
     }
     return ready + poll_part(&part);
 }
@@ -112,5 +140,7 @@ static long poll_long(struct pollfd *asked, long count, const void *timeout)
     long ready = select_all(&sets, asked, count) ? select_by(&sets, timeout) : -EBADF;
     if (ready == -EBADF)
         return poll_found(NULL, asked, count);
-    return ready < 0 ? ready : poll_found(&sets, asked, count);
+    if (ready < 0)
+        return ready;
+    return sets.is_plain ? poll_plain(&sets, asked) : poll_found(&sets, asked, count);
 }
