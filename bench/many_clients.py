@@ -4,8 +4,9 @@
     bench/many_clients.py [--program PATH] [--turns N] [answers] [failovers]
 
 Without a part both are taken. PATH is crates/varan/out/varan where it isn't given (build it first: `rt run` in crates/varan). The service is examples/live/loop.c, one
-loop over poll, behind `varan-listen --idle 0`, with 1, 2 and 8 equal versions, and the same loop over select. Beside it are the same guests under qemu-riscv32, and
-varan-listen before a program that sends back what it gets (live_answers.c). All is taken in one run, on 127.0.0.1, each case with and without the silent ones, in N
+loop over poll, behind `varan-listen --idle 0`, with 1, 2 and 8 equal versions, and the same loop over select and over epoll. Beside it are the guests over poll and
+select under qemu-riscv32 (that over epoll can't have its port again at once there: SO_REUSEADDR isn't Linux's over its library), and varan-listen before a program
+that sends back what it gets (live_answers.c). All is taken in one run, on 127.0.0.1, each case with and without the silent ones, in N
 turns, 5 by default, every other one in reverse. It needs qemu-riscv32 (Debian: qemu-user) and cc, and takes some minutes.
 
 50 clients ask, with and without 900 that ask once as they come and are silent then. It isn't 1,000 of which 900 are silent, since a guest has 960 sockets at most.
@@ -41,7 +42,9 @@ BUILT = TOP / "examples/live/built"
 # The guest's port, which it has under qemu too; and the seconds after which it lets a silent client go.
 PORT, PATIENCE = 8080, 3600
 COUNTS = (1, 2, 8)
-LOOPS = {"": "loop_1", ", select": "loop_select"}
+LOOPS = {"": "loop_1", ", select": "loop_select", ", epoll": "loop_epoll"}
+# Not under qemu; and the memory that musl wants beside the loop's own.
+EPOLL, MEMORY = ", epoll", ["--memory", "2097152"]
 ACTIVE, SILENT = 50, 900
 # Seconds in which clients ask, with so much pause at most and with none; failovers in a turn, and how often all ask before each.
 PACED, PAUSE, AT_ONCE, FAILOVERS, BEFORE = 2.0, 0.1, 0.5, 4, 3
@@ -359,9 +362,11 @@ def main():
         (folder / "setup").write_text(f"varan-script 5\nclock {int(time.time())} 0 0\narg {PATIENCE}\n")
         subprocess.run(["cc", "-O2", "-o", folder / "answers", TOP / "bench/live_answers.c"], check=True)
         serve = [os.path.abspath(asked.program), "serve", "--clients", "--script", folder / "setup"]
-        commands = {f"{QEMU}{kind}": ["qemu-riscv32", BUILT / loop, str(PATIENCE)] for kind, loop in LOOPS.items()} | {ALONE: [folder / "answers"]}
+        under_qemu = {kind: loop for kind, loop in LOOPS.items() if kind != EPOLL}
+        commands = {f"{QEMU}{kind}": ["qemu-riscv32", BUILT / loop, str(PATIENCE)] for kind, loop in under_qemu.items()} | {ALONE: [folder / "answers"]}
         commands |= {f"{k} version{'s' if k > 1 else ''}": [*serve, *[BUILT / "loop_1"] * k] for k in COUNTS}
         commands["1 version, select"] = [*serve, BUILT / LOOPS[", select"]]
+        commands["1 version, epoll"] = [*serve, *MEMORY, BUILT / LOOPS[EPOLL]]
         if not can_listen(PORT):
             print(f"qemu is left out: somebody listens at port {PORT}")
             commands = {name: words for name, words in commands.items() if not name.startswith(QEMU)}

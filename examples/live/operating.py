@@ -22,7 +22,7 @@ import time
 
 HERE = pathlib.Path(__file__).resolve().parent
 KEEPER = {number: str(HERE / f"built/keeper_{number}") for number in (1, 2, 3)}
-LOOP, SELECT_LOOP = str(HERE / "built/loop_1"), str(HERE / "built/loop_select")
+LOOP, SELECT_LOOP, EPOLL_LOOP = (str(HERE / f"built/loop_{it}") for it in ("1", "select", "epoll"))
 # With a thread for each client; the words for their stacks, and how many clients it serves at a time.
 PER_CLIENT = {number: str(HERE / f"built/per_client_{number}") for number in (1, 2)}
 STACKS, AT_A_TIME = ["--memory", "4194304"], 7
@@ -834,12 +834,12 @@ def asked_time(rows, client, what):
     return told, answer
 
 
-def one_loop(rows, program, loop=LOOP):
+def one_loop(rows, program, loop=LOOP, memory=()):
     """A server with one loop lets silent clients go in its time, whatever becomes of the command meanwhile. While nobody is there nothing is told."""
     folder = pathlib.Path(tempfile.mkdtemp(dir=Service.room))
     script = folder / "script"
     script.write_text(f"varan-script 5\nclock {int(time.time())} 0 0\narg {LET_GO}\n")
-    words = ["--script", script]
+    words = [*memory, "--script", script]
     service = Service(program, loop, options=ENDLESS, words=words, folder=folder)
     silent = service.connect()
     rows.same(service.ask("put colour green"), ["kept"], "a client beside a silent one")
@@ -862,7 +862,7 @@ def one_loop(rows, program, loop=LOOP):
     transcript = service.transcript()
     service.process.kill()
     service.process.wait()
-    resumed = Service(program, loop, loop, options=[*ENDLESS, "--resume", transcript], folder=folder)
+    resumed = Service(program, loop, loop, options=[*ENDLESS, "--resume", transcript], words=memory, folder=folder)
     until(lambda: "caught up" in resumed.notes(), "it catches up")
     silent = resumed.connect()
     rows.same(resumed.ask("get colour", "size"), ["green", "5"], "the state of a service that was resumed")
@@ -879,13 +879,18 @@ def loop_over_select(rows, program):
     one_loop(rows, program, SELECT_LOOP)
 
 
+def loop_over_epoll(rows, program):
+    """The same over epoll."""
+    one_loop(rows, program, EPOLL_LOOP, STACKS)
+
+
 def crowded(rows, program):
-    """One loop serves more clients at once than a ppoll has descriptors, over poll and over select."""
-    for loop in (LOOP, SELECT_LOOP):
+    """One loop serves more clients at once than a ppoll has descriptors, over poll, select and epoll."""
+    for loop, memory in ((LOOP, []), (SELECT_LOOP, []), (EPOLL_LOOP, STACKS)):
         folder = pathlib.Path(tempfile.mkdtemp(dir=Service.room))
         script = folder / "script"
         script.write_text(f"varan-script 5\narg {SECONDS}\n")
-        service = Service(program, loop, options=ENDLESS, words=["--script", script], folder=folder)
+        service = Service(program, loop, options=ENDLESS, words=[*memory, "--script", script], folder=folder)
         clients = [service.connect() for _ in range(MORE_THAN_POLLED)]
         rows.same([client.ask("size") for client in clients], [[str(it + 1)] for it in range(MORE_THAN_POLLED)], "more clients at once than a ppoll has descriptors")
         rows.same(clients[0].ask("put a b", "get a"), ["kept", "b"], "the first of them, once all are there")
@@ -1077,7 +1082,7 @@ def received(client):
 
 
 started = []
-TRIED = (joining, silent_client, handing, falling_back, wrong_answer, breaking_and_leaving, letting_go, failing, reloading, permitted, told_metrics, killed_command, killed_all, resuming, left_copies, real_time, one_loop, loop_over_select, crowded, thread_for_each, nearly_all_clients, unheard_port, closed_console, unread_console, whole_lines, made_folder, full_transcript, cut_answers)
+TRIED = (joining, silent_client, handing, falling_back, wrong_answer, breaking_and_leaving, letting_go, failing, reloading, permitted, told_metrics, killed_command, killed_all, resuming, left_copies, real_time, one_loop, loop_over_select, loop_over_epoll, crowded, thread_for_each, nearly_all_clients, unheard_port, closed_console, unread_console, whole_lines, made_folder, full_transcript, cut_answers)
 
 
 def main():
