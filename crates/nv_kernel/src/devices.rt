@@ -3,6 +3,7 @@ ghost use Rattle.std.specs.Prelude.{◌≡◌, ◌≤◌, ◌<◌, ◌+◌, ◌*
 ghost use Rattle.nv_calls.specs.Answers.{most_out_by};
 ghost use Rattle.nv_calls.specs.Calls.{request};
 ghost use Rattle.nv_calls.specs.Limits.{MOST_EVENTS};
+ghost use Rattle.nv_calls.specs.Numbers.{syscall_of};
 ghost use Rattle.nv_script.specs.Views.{setup_of};
 ghost use Rattle.nv_fs.specs.Fetched.{read_of};
 ghost use Rattle.nv_fs.specs.Stored.{write_of};
@@ -207,7 +208,8 @@ impl Devices {
         }
     }
 
-    fn answer_unless_bad(&mut self, call: &Call, out: &mut Bytes) -> i32
+    fn answer_unless_bad(&mut self, syscall: Syscall, call: &Call, out: &mut Bytes) -> i32
+        requires syscall { syscall ≡ syscall_of call.now.nr }
         requires ready { CanAnswer self.old.files (request call.now) }
         requires capacity { MOST_BYTES ≤ out.old.capacity }
         requires clones { (state_of self.old).crew.clones < MOST_EVENTS }
@@ -220,12 +222,13 @@ impl Devices {
         if call.bad {
             return EFAULT;
         }
-        self.answer_as(Syscall::of(call.nr), call, out)
+        self.answer_as(syscall, call, out)
     }
 
-    /// The result of a call, with the bytes that it hands out.
+    /// The result of a call, which is this one of the table, with the bytes that it hands out.
     #[tactic(auto, unfolding(crate::specs::Serving::serve))]
-    pub fn answer(&mut self, call: &Call, out: &mut Bytes) -> i32
+    pub fn answer(&mut self, syscall: Syscall, call: &Call, out: &mut Bytes) -> i32
+        requires syscall { syscall ≡ syscall_of call.now.nr }
         requires ready { CanAnswer self.old.files (request call.now) }
         requires few { self.old.served < MOST_EVENTS }
         requires capacity { MOST_BYTES ≤ out.old.capacity }
@@ -235,15 +238,17 @@ impl Devices {
         ensures few { length out.new.bytes ≤ most_out (request call.now) }
         ensures gone { self.new.files.gone ≡ self.old.files.gone }
     {
-        let ret = self.answer_unless_bad(call, out);
+        let ret = self.answer_unless_bad(syscall, call, out);
         self.served += 1;
         ret
     }
 
-    fn reserve_as(&mut self, syscall: Syscall, call: &Call) -> Result<(), AllocError>
+    /// Memory for what the call leaves.
+    pub fn reserve(&mut self, syscall: Syscall, call: &Call) -> Result<(), AllocError>
+        requires syscall { syscall ≡ syscall_of call.now.nr }
         requires few { length call.now.payload.bytes ≤ MOST_BYTES }
         ensures state { state_of self.new ≡ state_of self.old }
-        ensures ready { OnOk result (can_answer syscall self.new.files (request call.now)) }
+        ensures ready { OnOk result (CanAnswer self.new.files (request call.now)) }
         ensures gone { self.new.files.gone ≡ self.old.files.gone }
     {
         let args = call.args;
@@ -258,15 +263,5 @@ impl Devices {
                 .reserve_write(args[0], bytes.len() as u32),
             _ => Ok(()),
         }
-    }
-
-    /// Memory for what the call leaves.
-    pub fn reserve(&mut self, call: &Call) -> Result<(), AllocError>
-        requires few { length call.now.payload.bytes ≤ MOST_BYTES }
-        ensures state { state_of self.new ≡ state_of self.old }
-        ensures ready { OnOk result (CanAnswer self.new.files (request call.now)) }
-        ensures gone { self.new.files.gone ≡ self.old.files.gone }
-    {
-        self.reserve_as(Syscall::of(call.nr), call)
     }
 }

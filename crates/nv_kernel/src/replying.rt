@@ -1,7 +1,7 @@
 // The devices as what answers a kernel's calls.
 use crate::answers::{Answers, Foretold, FromScript, KeepsAll};
 use crate::devices::Devices;
-use nv_calls::{Bytes, Call};
+use nv_calls::{Bytes, Call, Syscall};
 use nv_script::Script;
 use std::alloc::{AllocError, Global};
 
@@ -30,11 +30,11 @@ impl Answers for Devices {
     ghost keeps_all = { true };
 
     fn reserve(&mut self, call: &Call) -> Result<(), AllocError> {
-        self.reserve(call)
+        self.reserve(Syscall::of(call.nr), call)
     }
 
     fn answer(&mut self, call: &Call, out: &mut Bytes) -> i32 {
-        self.answer(call, out)
+        self.answer(Syscall::of(call.nr), call, out)
     }
 
     fn keeps(&self) -> bool {

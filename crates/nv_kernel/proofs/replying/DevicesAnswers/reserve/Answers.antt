@@ -7,8 +7,8 @@ use Rattle.nv_kernel.proofs.Standings.{at_log}
 use Rattle.nv_kernel.proofs.Wholes.{whole_on}
 use Rattle.nv_kernel.proofs.replying.DevicesAnswers.reserve.Goals as goal
 
-pub reserve-requires : goal.reserve-requires
-reserve-requires c = record { few = shaped-few (request c.args.call.now) c.requires.shaped }
+pub reserve-requires-clause-few : goal.reserve-requires-clause-few
+reserve-requires-clause-few c = shaped-few (request c.args.call.now) c.requires.shaped
 
 pub returns-clause-stands : goal.returns-clause-stands
 returns-clause-stands c =
