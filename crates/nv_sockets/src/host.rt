@@ -70,7 +70,8 @@ impl Host {
     }
 
     /// The result of a call, with what it did outside and the bytes that it hands out.
-    pub fn answer(&mut self, call: &Call, out: &mut Bytes) -> Outcome
+    pub fn answer(&mut self, syscall: Syscall, call: &Call, out: &mut Bytes) -> Outcome
+        requires syscall { syscall ≡ syscall_of call.now.nr }
         requires ready { CanAnswer self.old.devices.files (request call.now) }
         requires sends { CanSend self.old.sockets (request call.now) }
         requires few { self.old.devices.served < MOST_EVENTS }
@@ -85,15 +86,15 @@ impl Host {
         ensures capacity { out.new.capacity ≡ out.old.capacity }
         ensures few { length out.new.bytes ≤ most_out (request call.now) }
     {
-        let syscall = Syscall::of(call.nr);
         let console = self.devices.files.prints(call.args[0]);
-        let ret = self.devices.answer(call, out);
+        let ret = self.devices.answer(syscall, call, out);
         let own = Outcome::own(syscall, console, ret);
         answer_beside(&mut self.sockets, syscall, call, own, out)
     }
 
     /// Memory for what the call leaves.
-    pub fn reserve(&mut self, call: &Call) -> Result<(), AllocError>
+    pub fn reserve(&mut self, syscall: Syscall, call: &Call) -> Result<(), AllocError>
+        requires syscall { syscall ≡ syscall_of call.now.nr }
         requires few { length call.now.payload.bytes ≤ MOST_BYTES }
         ensures state { state_of self.new ≡ state_of self.old }
         ensures held { self.new.sockets.held ≡ self.old.sockets.held }
@@ -102,7 +103,7 @@ impl Host {
         ensures ready { OnOk result (CanAnswer self.new.devices.files (request call.now)) }
         ensures sends { OnOk result (CanSend self.new.sockets (request call.now)) }
     {
-        self.devices.reserve(call)?;
-        self.sockets.reserve_as(Syscall::of(call.nr), call)
+        self.devices.reserve(syscall, call)?;
+        self.sockets.reserve_as(syscall, call)
     }
 }

@@ -1,6 +1,6 @@
 // The host as what answers a kernel's calls.
 use crate::host::Host;
-use nv_calls::{Bytes, Call};
+use nv_calls::{Bytes, Call, Syscall};
 use nv_kernel::{Answers, Foretold, FromScript, KeepsAll};
 use nv_script::Script;
 use std::alloc::{AllocError, Global};
@@ -28,11 +28,11 @@ impl Answers for Host {
     ghost keeps_all = { true };
 
     fn reserve(&mut self, call: &Call) -> Result<(), AllocError> {
-        self.reserve(call)
+        self.reserve(Syscall::of(call.nr), call)
     }
 
     fn answer(&mut self, call: &Call, out: &mut Bytes) -> i32 {
-        self.answer(call, out).ret
+        self.answer(Syscall::of(call.nr), call, out).ret
     }
 
     fn keeps(&self) -> bool {
