@@ -17,7 +17,7 @@ ends s c (want.Client port) ClientsEnd = true
 ends s c (want.Data i) (Data client bytes) = client == i
 ends s c (want.Data i) (End client) = client == i
 ends s c (want.Time seconds nanos) (Time now more) = reaches now more seconds nanos
-ends s c want.Ready a = ends_poll s c a
+ends s c (want.Ready u) a = ends_poll s c u a
 ends s c _ _ = false
 
 -- some of them ends the wait

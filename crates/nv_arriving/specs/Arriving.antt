@@ -24,7 +24,7 @@ use Rattle.nv_arrivals.specs.Arrivals.{Arrival, Input, InputEnd, ClientsEnd, Con
 use Rattle.nv_arriving.specs.Arrivals.{ends, taken_for, in_vain}
 use Rattle.nv_arriving.specs.NonBlocking.{each_waits, with_socket}
 use Rattle.nv_arriving.specs.Timing.{until_of, sleep_wants, slept, with_time}
-use Rattle.nv_arriving.specs.Polling.{poll_waits, poll_of}
+use Rattle.nv_arriving.specs.Polling.{poll_wants, poll_of}
 use Rattle.nv_arriving.specs.Flags.{NONBLOCK, is_nonblocking, control_of}
 pub use Rattle.nv_arriving.specs.Standings.{Standing, is_over, with_state}
 
@@ -63,8 +63,8 @@ wants_on call.Accept4 s c = accept_wants s (request_arg c 3) (socket_at s.state.
 wants_on _ s c = None
 
 abbrev pub wants_as : Syscall → Standing → Request → Option Want
-wants_as call.Ppoll s c = if s.polls && poll_waits s c then Some want.Ready else None
-wants_as call.Pselect6 s c = if s.polls && poll_waits s c then Some want.Ready else None
+wants_as call.Ppoll s c = if s.polls then poll_wants s c (until_of s c) else None
+wants_as call.Pselect6 s c = if s.polls then poll_wants s c (until_of s c) else None
 wants_as call.ClockNanosleep s c = if s.polls then sleep_wants s (until_of s c) else None
 wants_as k s c = if is_nonblocking s (request_arg c 0) then None else wants_on k s c
 

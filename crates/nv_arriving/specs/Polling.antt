@@ -20,9 +20,11 @@ use Rattle.nv_arrivals.specs.Arrivals.{Arrival, Input, InputEnd, ClientsEnd, Con
 use Rattle.nv_arriving.specs.declared.polled.Polled.{Polled}
 use Rattle.nv_arriving.specs.declared.timing.Until.{Until}
 use Rattle.nv_arriving.specs.declared.timing.Until.TheVariants as until
+use Rattle.nv_arriving.specs.declared.waiting.Want.{Want}
+use Rattle.nv_arriving.specs.declared.waiting.Want.TheVariants as want
 use Rattle.nv_arriving.specs.Selecting.{selected_at}
 use Rattle.nv_arriving.specs.Standings.{Standing, is_over}
-use Rattle.nv_arriving.specs.Timing.{until_of, is_past, is_reached}
+use Rattle.nv_arriving.specs.Timing.{is_past, is_reached}
 
 -- ---- the list of ppoll: 8 bytes for each descriptor (poll(2))
 
@@ -156,10 +158,10 @@ is_at_end s c = s.clients_over && not (has_source s c)
 
 -- The wait ends with the first arrival that makes one of the descriptors ready, with the time, and, where nothing else comes of what is looked at,
 -- with the last client.
-unfoldable pub ends_poll : Standing → Request → Arrival → Bool
-ends_poll s c ClientsEnd = not (has_source s c)
-ends_poll s c (Time seconds nanos) = is_reached (until_of s c) seconds nanos
-ends_poll s c a = list_any (λ place. readies s a (looked_at c place)) (places c)
+unfoldable pub ends_poll : Standing → Request → Until → Arrival → Bool
+ends_poll s c u ClientsEnd = not (has_source s c)
+ends_poll s c u (Time seconds nanos) = is_reached u seconds nanos
+ends_poll s c u a = list_any (λ place. readies s a (looked_at c place)) (places c)
 
 abbrev pub is_bad : Until → Bool
 is_bad until.Bad = true
@@ -176,8 +178,12 @@ abbrev pub is_refused : Request → Until → Bool
 is_refused c u = has_bad_count (syscall_of c.nr) c || is_bad u
 
 -- it waits
-unfoldable pub poll_waits : Standing → Request → Bool
-poll_waits s c = not (is_refused c (until_of s c)) && ((ready s c == 0) && not (is_at_end s c))
+unfoldable pub poll_waits : Standing → Request → Until → Bool
+poll_waits s c u = not (is_refused c u) && ((ready s c == 0) && not (is_at_end s c))
+
+-- it waits for what it looks at, and for that time
+abbrev pub poll_wants : Standing → Request → Until → Option Want
+poll_wants s c u = if poll_waits s c u then Some (want.Ready u) else None
 
 -- ---- what it answers, by the time that was given when it was made
 

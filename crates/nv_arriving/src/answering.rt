@@ -21,7 +21,7 @@ use crate::guests::GuestSide;
 use crate::listed::{Nothing, copies};
 use crate::waiting::Intake;
 use nv_arrivals::{Arrival, Outside};
-use nv_calls::{Bytes, Call};
+use nv_calls::{Bytes, Call, Syscall};
 use nv_fs::FileSystem;
 use nv_kernel::Answers;
 use nv_live::Telling;
@@ -243,6 +243,7 @@ impl<O: Outside + Telling + Send> Answers for Guests<O> {
         ensures came { self.old.over ≡ true → self.new.came ≡ self.old.came }
         ensures kept { KeepsOn self.old self.new }
     {
+        let syscall = Syscall::of(call.nr);
         self.intake = learn(
             &mut self.outside,
             self.alloc,
@@ -250,10 +251,12 @@ impl<O: Outside + Telling + Send> Answers for Guests<O> {
             self.used,
             &mut self.over,
             &self.side,
+            syscall,
             call,
         )?;
         let rest = rest(&self.came, self.used);
-        self.side.reserve(call, first(rest, self.intake.count))?;
+        self.side
+            .reserve(syscall, call, first(rest, self.intake.count))?;
         Ok(())
     }
 
@@ -275,6 +278,7 @@ impl<O: Outside + Telling + Send> Answers for Guests<O> {
         let rest = rest(&self.came, self.used);
         let Intake { count, vain } = self.intake;
         let ret = self.side.answer(
+            Syscall::of(call.nr),
             call,
             first(rest, count),
             vain,

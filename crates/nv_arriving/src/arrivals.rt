@@ -3,6 +3,7 @@ ghost use Rattle.std.specs.Prelude.{◌≡◌, ◌≤◌, ◌+◌, [], true, fal
 ghost use Rattle.nv_arrivals.specs.Doings.{Takes};
 ghost use Rattle.nv_arrivals.specs.Views.{view as arrival_of};
 ghost use Rattle.nv_calls.specs.Calls.{request};
+ghost use Rattle.nv_calls.specs.Numbers.{syscall_of};
 ghost use Rattle.nv_arriving.specs.Arrivals.{ends, any_ends, in_vain, until};
 ghost use Rattle.nv_arriving.specs.Arriving.{wait_of};
 ghost use Rattle.nv_arriving.specs.Views.{standing_of};
@@ -13,7 +14,7 @@ use crate::guests::GuestSide;
 use crate::timing::Until;
 use crate::waiting::{Intake, Want};
 use nv_arrivals::{Arrival, Outside};
-use nv_calls::Call;
+use nv_calls::{Call, Syscall};
 use nv_past::Past;
 use std::alloc::{AllocError, Global};
 
@@ -34,9 +35,11 @@ pub(crate) fn hear<O: Outside>(
     alloc: Global,
     came: &mut Past<Arrival>,
     side: &GuestSide,
+    syscall: Syscall,
     call: &Call,
     want: Want,
 ) -> Result<bool, AllocError>
+    requires { syscall ≡ syscall_of call.now.nr }
     ensures grew { Grew (map arrival_of came.old.items) (map arrival_of came.new.items) }
     ensures did { Adds O.did outside.old outside.new (map Takes (after (map arrival_of came.old.items) (map arrival_of came.new.items))) }
     ensures ended { IfOk result (λ over. any_ends (ends (standing_of side.now) (request call.now) want) (after (map arrival_of came.old.items) (map arrival_of came.new.items)) ≡ not over) }
@@ -49,7 +52,7 @@ pub(crate) fn hear<O: Outside>(
         let Some(arrival) = outside.next(alloc)? else {
             return Ok(true);
         };
-        let last = side.ends(call, want, &arrival);
+        let last = side.ends(syscall, call, want, &arrival);
         came.push(arrival);
         if last {
             return Ok(false);
@@ -59,12 +62,15 @@ pub(crate) fn hear<O: Outside>(
 }
 
 // Up to when a call waits that is about to, where it waits up to a time.
-fn tell_deadline<O: Outside>(outside: &mut O, until: Until)
+fn tell_deadline<O: Outside>(outside: &mut O, want: Want)
     ensures { Adds O.did outside.old outside.new [] }
 {
-    match until {
-        Until::At(seconds, nanos) => outside.waits_to(seconds, nanos),
-        Until::Never | Until::Bad => {}
+    match want {
+        Want::Time(seconds, nanos) | Want::Ready(Until::At(seconds, nanos)) => {
+            outside.waits_to(seconds, nanos)
+        }
+        Want::Ready(Until::Never) | Want::Ready(Until::Bad) => {}
+        Want::Input | Want::Client(_) | Want::Data(_) => {}
     }
 }
 
@@ -76,8 +82,10 @@ pub(crate) fn learn<O: Outside>(
     used: usize,
     over: &mut bool,
     side: &GuestSide,
+    syscall: Syscall,
     call: &Call,
 ) -> Result<Intake, AllocError>
+    requires syscall { syscall ≡ syscall_of call.now.nr }
     requires there { came.old.gone ≤ used }
     requires inside { used ≤ length came.old.items }
     ensures grew { Grew (map arrival_of came.old.items) (map arrival_of came.new.items) }
@@ -91,15 +99,15 @@ pub(crate) fn learn<O: Outside>(
     ensures inside { IfOk result (λ found. used + found.count ≤ length came.new.items) }
     ensures waits { OnOk result (over.new ≡ false → in_vain (wait_of (standing_of side.now) (request call.now)) (drop used (map arrival_of came.new.items)) ≡ false) }
 {
-    let Some(want) = side.wants(call) else {
+    let Some(want) = side.wants(syscall, call) else {
         return Ok(Intake::nothing());
     };
-    let found = side.intake(call, want, rest(came, used));
+    let found = side.intake(syscall, call, want, rest(came, used));
     if *over || !found.vain {
         return Ok(found);
     }
-    tell_deadline(outside, side.until(call));
-    *over = hear(outside, alloc, came, side, call, want)?;
+    tell_deadline(outside, want);
+    *over = hear(outside, alloc, came, side, syscall, call, want)?;
     Ok(Intake {
         count: came.len() - used,
         vain: *over,

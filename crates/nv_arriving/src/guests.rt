@@ -2,6 +2,7 @@
 ghost use Rattle.std.specs.Prelude.{◌≡◌, ◌≤◌, ◌<◌, List, length, map, true, false, [], ◌∷◌, None, OnOk, IfOk};
 ghost use Rattle.nv_calls.specs.Calls.{request};
 ghost use Rattle.nv_calls.specs.Limits.{MOST_BYTES, MOST_EVENTS};
+ghost use Rattle.nv_calls.specs.Numbers.{syscall_of};
 ghost use Rattle.nv_script.specs.Views.{setup_of};
 ghost use Rattle.nv_kernel.specs.Reserved.{CanAnswer, most_out};
 ghost use Rattle.nv_sockets.specs.Coming.{HasPlaces};
@@ -190,16 +191,17 @@ impl GuestSide {
     }
 
     fn wants_as(&self, syscall: Syscall, call: &Call) -> Option<Want>
+        requires { syscall ≡ syscall_of call.now.nr }
         ensures { result ≡ wants_as syscall (standing_of self.now) (request call.now) }
     {
         match syscall {
-            Syscall::Ppoll | Syscall::Pselect6 => if self.polls && self.poll_waits(call) {
-                Some(Want::Ready)
+            Syscall::Ppoll | Syscall::Pselect6 => if self.polls {
+                self.poll_wants(syscall, call, self.until(syscall, call))
             } else {
                 None
             },
             Syscall::ClockNanosleep => if self.polls {
-                self.sleep_wants(self.until(call))
+                self.sleep_wants(self.until(syscall, call))
             } else {
                 None
             },
@@ -212,13 +214,14 @@ impl GuestSide {
     }
 
     /// What a call waits for; nothing where it doesn't wait.
-    pub fn wants(&self, call: &Call) -> Option<Want>
+    pub fn wants(&self, syscall: Syscall, call: &Call) -> Option<Want>
+        requires { syscall ≡ syscall_of call.now.nr }
         ensures { result ≡ wants (standing_of self.now) (request call.now) }
     {
         if call.bad {
             return None;
         }
-        self.wants_as(Syscall::of(call.nr), call)
+        self.wants_as(syscall, call)
     }
 
     // One more client connects, for which there is memory.
@@ -294,6 +297,7 @@ impl GuestSide {
     /// let go unless what is said is kept.
     pub(crate) fn answer<O: Outside>(
         &mut self,
+        syscall: Syscall,
         call: &Call,
         arrivals: &[Arrival],
         vain: bool,
@@ -301,6 +305,7 @@ impl GuestSide {
         out: &mut Bytes,
         outside: &mut O,
     ) -> i32
+        requires syscall { syscall ≡ syscall_of call.now.nr }
         requires takes { CanTakeIn (room_of self.old) (map arrival_of arrivals.now) }
         requires waits { wants (standing_of self.old) (request call.now) ≡ None → length arrivals.now ≡ 0 }
         requires ready { CanAnswer self.old.host.devices.files (request call.now) }
@@ -317,10 +322,10 @@ impl GuestSide {
         ensures kept { keeps ≡ true → IsKept (room_of self.old) → IsKept (room_of self.new) }
         ensures gone { keeps ≡ false → self.new.host.devices.files.gone ≡ length self.new.host.devices.files.state.console }
     {
-        let until = self.until(call);
+        let until = self.until(syscall, call);
         self.arrive_all(arrivals);
         self.tell_end(vain);
-        let outcome = self.answer_by(call, until, out);
+        let outcome = self.answer_by(syscall, call, until, out);
         say(outside, outcome.did, call.payload.as_slice());
         self.let_go_unless(keeps, outcome.did);
         outcome.ret
@@ -371,7 +376,13 @@ impl GuestSide {
     }
 
     /// Memory for what the call leaves, and for these, which it takes in.
-    pub(crate) fn reserve(&mut self, call: &Call, arrivals: &[Arrival]) -> Result<(), AllocError>
+    pub(crate) fn reserve(
+        &mut self,
+        syscall: Syscall,
+        call: &Call,
+        arrivals: &[Arrival],
+    ) -> Result<(), AllocError>
+        requires syscall { syscall ≡ syscall_of call.now.nr }
         requires few { length call.now.payload.bytes ≤ MOST_BYTES }
         ensures standing { standing_of self.new ≡ standing_of self.old }
         ensures takes { OnOk result (CanTakeIn (room_of self.new) (map arrival_of arrivals.now)) }
@@ -379,7 +390,7 @@ impl GuestSide {
         ensures sends { OnOk result (CanSend self.new.host.sockets (request call.now)) }
         ensures kept { IsKept (room_of self.old) → IsKept (room_of self.new) }
     {
-        self.host.reserve(call)?;
+        self.host.reserve(syscall, call)?;
         self.reserve_some(arrivals)
     }
 }

@@ -27,7 +27,14 @@ impl GuestSide {
         self.is_nonblocking(call.args[0]) && self.wants_on(syscall, call).is_some()
     }
 
-    fn answer_as(&mut self, call: &Call, until: Until, out: &mut Bytes) -> Option<i32>
+    fn answer_as(
+        &mut self,
+        syscall: Syscall,
+        call: &Call,
+        until: Until,
+        out: &mut Bytes,
+    ) -> Option<i32>
+        requires syscall { syscall ≡ syscall_of call.now.nr }
         requires empty { out.old.bytes ≡ [] }
         requires capacity { MOST_BYTES ≤ out.old.capacity }
         ensures answer { later_as (syscall_of call.now.nr) (standing_of self.old) (request call.now) until ≡ option_map (λ ret. record { state = counted (standing_of self.new); ret = ret; payload = out.new.bytes }) result }
@@ -38,11 +45,10 @@ impl GuestSide {
         ensures files { self.new.host.devices.files ≡ self.old.host.devices.files }
     {
         let args = call.args;
-        let syscall = Syscall::of(call.nr);
         match syscall {
             Syscall::Fcntl => Some(self.control(args[0], args[1], args[2])),
             Syscall::ClockNanosleep => Some(self.sleep(until)),
-            Syscall::Ppoll | Syscall::Pselect6 => Some(self.poll(call, until, out)),
+            Syscall::Ppoll | Syscall::Pselect6 => Some(self.poll(syscall, call, until, out)),
             _ => if self.would_wait(syscall, call) {
                 Some(EAGAIN)
             } else {
@@ -52,7 +58,14 @@ impl GuestSide {
     }
 
     // What takes the place of the answer of the kernel whose calls wait for one thing, where something does.
-    fn answer_later(&mut self, call: &Call, until: Until, out: &mut Bytes) -> Option<i32>
+    fn answer_later(
+        &mut self,
+        syscall: Syscall,
+        call: &Call,
+        until: Until,
+        out: &mut Bytes,
+    ) -> Option<i32>
+        requires syscall { syscall ≡ syscall_of call.now.nr }
         requires capacity { MOST_BYTES ≤ out.old.capacity }
         requires room { (standing_of self.old).state.own.served < MOST_EVENTS }
         ensures answer { later (standing_of self.old) (request call.now) until ≡ option_map (λ ret. record { state = standing_of self.new; ret = ret; payload = out.new.bytes }) result }
@@ -65,13 +78,14 @@ impl GuestSide {
             return None;
         }
         out.set(&[]);
-        let ret = self.answer_as(call, until, out)?;
+        let ret = self.answer_as(syscall, call, until, out)?;
         self.host.devices.served += 1;
         Some(ret)
     }
 
     // A new socket's calls never wait, or do, as its flags say.
-    fn note(&mut self, call: &Call, ret: i32)
+    fn note(&mut self, syscall: Syscall, call: &Call, ret: i32)
+        requires { syscall ≡ syscall_of call.now.nr }
         ensures standing { standing_of self.new ≡ noted (standing_of self.old) ret (nonblocking_by (syscall_of call.now.nr) (request call.now)) }
         ensures host { self.new.host ≡ self.old.host }
     {
@@ -79,7 +93,7 @@ impl GuestSide {
             return;
         }
         let fd = ret as u32;
-        match Syscall::of(call.nr) {
+        match syscall {
             Syscall::Socket => self.nonblocking.set(fd, call.args[1] & NONBLOCK != 0),
             Syscall::Accept => self.nonblocking.set(fd, false),
             Syscall::Accept4 => self.nonblocking.set(fd, call.args[3] & NONBLOCK != 0),
@@ -88,7 +102,14 @@ impl GuestSide {
     }
 
     /// The answer of a call whose wait is over at this time, with what it did outside.
-    pub(crate) fn answer_by(&mut self, call: &Call, until: Until, out: &mut Bytes) -> Outcome
+    pub(crate) fn answer_by(
+        &mut self,
+        syscall: Syscall,
+        call: &Call,
+        until: Until,
+        out: &mut Bytes,
+    ) -> Outcome
+        requires syscall { syscall ≡ syscall_of call.now.nr }
         requires ready { CanAnswer self.old.host.devices.files (request call.now) }
         requires sends { CanSend self.old.host.sockets (request call.now) }
         requires few { (standing_of self.old).state.own.served < MOST_EVENTS }
@@ -102,12 +123,12 @@ impl GuestSide {
         ensures gone { self.new.host.devices.files.gone ≡ self.old.host.devices.files.gone }
         ensures kept { IsKept (room_of self.old) → IsKept (room_of self.new) }
     {
-        if let Some(ret) = self.answer_later(call, until, out) {
+        if let Some(ret) = self.answer_later(syscall, call, until, out) {
             return Outcome::quiet(ret);
         }
-        let outcome = self.host.answer(call, out);
+        let outcome = self.host.answer(syscall, call, out);
         if self.polls {
-            self.note(call, outcome.ret);
+            self.note(syscall, call, outcome.ret);
         }
         outcome
     }

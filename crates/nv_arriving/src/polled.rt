@@ -103,10 +103,11 @@ impl Polled {
     }
 
     /// What a call looks at in a place.
-    pub(crate) fn at(call: &Call, place: u32) -> Polled
+    pub(crate) fn at(syscall: Syscall, call: &Call, place: u32) -> Polled
+        requires { syscall ≡ syscall_of call.now.nr }
         ensures { result ≡ looked_at (request call.now) place }
     {
-        match Syscall::of(call.nr) {
+        match syscall {
             Syscall::Pselect6 => Polled::in_sets(call, place),
             _ => Polled::in_list(call.payload.as_slice(), place),
         }
@@ -137,11 +138,12 @@ pub(crate) fn listed_count(call: &Call) -> u32
 }
 
 /// In how many places a call looks: the bits of its sets, or its list.
-pub(crate) fn count_of(call: &Call) -> u32
+pub(crate) fn count_of(syscall: Syscall, call: &Call) -> u32
+    requires { syscall ≡ syscall_of call.now.nr }
     ensures is { result ≡ count_as (syscall_of call.now.nr) (request call.now) }
     ensures few { result ≤ 3072 }
 {
-    match Syscall::of(call.nr) {
+    match syscall {
         Syscall::Pselect6 => 8 * sets_bytes(&call.args),
         _ => listed_count(call),
     }

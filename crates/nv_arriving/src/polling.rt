@@ -6,12 +6,13 @@ ghost use Rattle.nv_calls.specs.Calls.{request};
 ghost use Rattle.nv_calls.specs.Limits.{MOST_BYTES};
 ghost use Rattle.nv_calls.specs.Numbers.{syscall_of};
 ghost use Rattle.nv_arrivals.specs.Views.{view as arrival_of};
-ghost use Rattle.nv_arriving.specs.Polling.{looked_at, places, connected_events, socket_events, events, told, told_of, is_ready, ready, comes_to, calls_at, comes_in, readies, is_source, has_source, is_at_end, ends_poll, has_bad_count, is_refused, poll_waits, is_closed, has_closed, refuses_closed, idle_answer, poll_ret, told_in, ready_bits, ready_byte, told_bytes, poll_of};
+ghost use Rattle.nv_arriving.specs.Polling.{looked_at, places, connected_events, socket_events, events, told, told_of, is_ready, ready, comes_to, calls_at, comes_in, readies, is_source, has_source, is_at_end, ends_poll, has_bad_count, is_refused, poll_waits, poll_wants, is_closed, has_closed, refuses_closed, idle_answer, poll_ret, told_in, ready_bits, ready_byte, told_bytes, poll_of};
 ghost use Rattle.nv_arriving.specs.Views.{standing_of};
 
 use crate::guests::GuestSide;
 use crate::polled::{Polled, count_of, listed_count};
 use crate::timing::Until;
+use crate::waiting::Want;
 use arrayvec::ArrayVec;
 use nv_arrivals::Arrival;
 use nv_calls::errors::{EBADF, EINTR, EINVAL};
@@ -26,20 +27,22 @@ const NOT_OPEN: u32 = 0x20;
 const SENT_ALL: u32 = 0x2000;
 
 // More descriptors than can be polled; a number below 0 of those that are selected.
-fn has_bad_count(call: &Call) -> bool
+fn has_bad_count(syscall: Syscall, call: &Call) -> bool
+    requires { syscall ≡ syscall_of call.now.nr }
     ensures { result ≡ has_bad_count (syscall_of call.now.nr) (request call.now) }
 {
-    match Syscall::of(call.nr) {
+    match syscall {
         Syscall::Pselect6 => call.args[0] >= 0x8000_0000,
         _ => call.args[1] > MOST_POLLED,
     }
 }
 
 // So, or with a time that is none.
-fn is_refused(call: &Call, until: Until) -> bool
+fn is_refused(syscall: Syscall, call: &Call, until: Until) -> bool
+    requires { syscall ≡ syscall_of call.now.nr }
     ensures { result ≡ is_refused (request call.now) until }
 {
-    has_bad_count(call) || matches!(until, Until::Bad)
+    has_bad_count(syscall, call) || matches!(until, Until::Bad)
 }
 
 // What is told of a descriptor of which this may be told.
@@ -138,19 +141,21 @@ impl GuestSide {
     }
 
     // Whether something is told of the descriptor in a place.
-    fn is_ready(&self, call: &Call, place: u32) -> bool
+    fn is_ready(&self, syscall: Syscall, call: &Call, place: u32) -> bool
+        requires { syscall ≡ syscall_of call.now.nr }
         ensures { result ≡ is_ready (standing_of self.now) (request call.now) place }
     {
-        self.told_of(Polled::at(call, place)) != 0
+        self.told_of(Polled::at(syscall, call, place)) != 0
     }
 
     // In how many places something is told.
-    fn ready(&self, call: &Call) -> usize
+    fn ready(&self, syscall: Syscall, call: &Call) -> usize
+        requires { syscall ≡ syscall_of call.now.nr }
         ensures is { result ≡ ready (standing_of self.now) (request call.now) }
         ensures few { result ≤ 3072 }
     {
-        (0..count_of(call))
-            .filter(|place| self.is_ready(call, *place))
+        (0..count_of(syscall, call))
+            .filter(|place| self.is_ready(syscall, call, *place))
             .count()
     }
 
@@ -172,10 +177,14 @@ impl GuestSide {
     }
 
     // Whether it makes one of those ready that the call looks at.
-    fn readies_one(&self, call: &Call, arrival: &Arrival) -> bool
+    fn readies_one(&self, syscall: Syscall, call: &Call, arrival: &Arrival) -> bool
+        requires { syscall ≡ syscall_of call.now.nr }
         ensures { result ≡ list_any (λ place. readies (standing_of self.now) (arrival_of arrival.now) (looked_at (request call.now) place)) (places (request call.now)) }
     {
-        (0..count_of(call)).any(|place| self.readies(arrival, Polled::at(call, place)))
+        (0..count_of(syscall, call)).any(|place| self.readies(
+            arrival,
+            Polled::at(syscall, call, place),
+        ))
     }
 
     // Whether something may still come of the descriptor that makes it ready.
@@ -197,44 +206,75 @@ impl GuestSide {
     }
 
     // Whether the call looks at such a one.
-    fn has_source(&self, call: &Call) -> bool
+    fn has_source(&self, syscall: Syscall, call: &Call) -> bool
+        requires { syscall ≡ syscall_of call.now.nr }
         ensures { result ≡ has_source (standing_of self.now) (request call.now) }
     {
-        (0..count_of(call)).any(|place| self.is_source(Polled::at(call, place)))
+        (0..count_of(syscall, call)).any(|place| self.is_source(Polled::at(syscall, call, place)))
     }
 
     // Whether the service is at its end: no client comes, and nothing comes of what is looked at.
-    fn is_at_end(&self, call: &Call) -> bool
+    fn is_at_end(&self, syscall: Syscall, call: &Call) -> bool
+        requires { syscall ≡ syscall_of call.now.nr }
         ensures { result ≡ is_at_end (standing_of self.now) (request call.now) }
     {
-        self.clients_over && !self.has_source(call)
+        self.clients_over && !self.has_source(syscall, call)
     }
 
-    /// Whether the arrival ends the wait of ppoll, or of select.
-    pub(crate) fn ends_poll(&self, call: &Call, arrival: &Arrival) -> bool
-        ensures { result ≡ ends_poll (standing_of self.now) (request call.now) (arrival_of arrival.now) }
+    /// Whether the arrival ends the wait of ppoll, or of select, which is over at this time.
+    pub(crate) fn ends_poll(
+        &self,
+        syscall: Syscall,
+        call: &Call,
+        until: Until,
+        arrival: &Arrival,
+    ) -> bool
+        requires { syscall ≡ syscall_of call.now.nr }
+        ensures { result ≡ ends_poll (standing_of self.now) (request call.now) until (arrival_of arrival.now) }
     {
         match arrival {
-            Arrival::ClientsEnd => !self.has_source(call),
-            Arrival::Time(seconds, nanos) => self.until(call).is_reached(*seconds, *nanos),
-            Arrival::Input(_) | Arrival::InputEnd => self.readies_one(call, arrival),
+            Arrival::ClientsEnd => !self.has_source(syscall, call),
+            Arrival::Time(seconds, nanos) => until.is_reached(*seconds, *nanos),
+            Arrival::Input(_) | Arrival::InputEnd => self.readies_one(syscall, call, arrival),
             Arrival::Connect(_) | Arrival::Data(_, _) | Arrival::End(_) => {
-                self.readies_one(call, arrival)
+                self.readies_one(syscall, call, arrival)
             }
         }
     }
 
-    /// Whether ppoll waits, or select.
-    pub(crate) fn poll_waits(&self, call: &Call) -> bool
-        ensures { result ≡ poll_waits (standing_of self.now) (request call.now) }
+    // Whether ppoll waits, or select, up to this time.
+    fn poll_waits(&self, syscall: Syscall, call: &Call, until: Until) -> bool
+        requires { syscall ≡ syscall_of call.now.nr }
+        ensures { result ≡ poll_waits (standing_of self.now) (request call.now) until }
     {
-        !is_refused(call, self.until(call)) && (self.ready(call) == 0 && !self.is_at_end(call))
+        !is_refused(syscall, call, until)
+            && (self.ready(syscall, call) == 0 && !self.is_at_end(syscall, call))
+    }
+
+    /// What ppoll waits for, or select, up to this time.
+    pub(crate) fn poll_wants(&self, syscall: Syscall, call: &Call, until: Until) -> Option<Want>
+        requires { syscall ≡ syscall_of call.now.nr }
+        ensures { result ≡ poll_wants (standing_of self.now) (request call.now) until }
+    {
+        if self.poll_waits(syscall, call, until) {
+            Some(Want::Ready(until))
+        } else {
+            None
+        }
     }
 
     // ---- the answer
 
     // What is told of so many descriptors of ppoll, from a place in its list on.
-    fn add_told(&self, list: &mut ArrayVec<u8, 816>, call: &Call, place: u32, left: u32)
+    fn add_told(
+        &self,
+        list: &mut ArrayVec<u8, 816>,
+        syscall: Syscall,
+        call: &Call,
+        place: u32,
+        left: u32,
+    )
+        requires syscall { syscall ≡ syscall_of call.now.nr }
         requires few { place + left ≤ 408 }
         requires room { length list.old.items + 2 * left ≤ 816 }
         ensures { list.new.items ≡ list.old.items ++ told_in (standing_of self.now) (request call.now) (range_with_len place left) }
@@ -242,13 +282,14 @@ impl GuestSide {
         if left == 0 {
             return;
         }
-        let [low, high, _, _] = self.told_of(Polled::at(call, place)).to_le_bytes();
+        let [low, high, _, _] = self.told_of(Polled::at(syscall, call, place)).to_le_bytes();
         append(list, &[low, high]);
-        self.add_told(list, call, place + 1, left - 1);
+        self.add_told(list, syscall, call, place + 1, left - 1);
     }
 
     // So many bits of the sets of select, from a place on.
-    fn ready_bits(&self, call: &Call, place: u32, left: u32) -> u8
+    fn ready_bits(&self, syscall: Syscall, call: &Call, place: u32, left: u32) -> u8
+        requires syscall { syscall ≡ syscall_of call.now.nr }
         requires few { left ≤ 8 }
         requires fits { place + left ≤ 3072 }
         ensures is { result ≡ ready_bits (standing_of self.now) (request call.now) place left }
@@ -257,38 +298,41 @@ impl GuestSide {
         if left == 0 {
             return 0;
         }
-        let first = u8::from(self.is_ready(call, place));
-        first + 2 * self.ready_bits(call, place + 1, left - 1)
+        let first = u8::from(self.is_ready(syscall, call, place));
+        first + 2 * self.ready_bits(syscall, call, place + 1, left - 1)
     }
 
     // The sets of select, with those that are ready alone.
-    fn add_sets(&self, list: &mut ArrayVec<u8, 816>, call: &Call)
+    fn add_sets(&self, list: &mut ArrayVec<u8, 816>, syscall: Syscall, call: &Call)
+        requires syscall { syscall ≡ syscall_of call.now.nr }
         requires empty { list.old.items ≡ [] }
         ensures { list.new.items ≡ map (ready_byte (standing_of self.now) (request call.now)) (range_with_len 0 (sets_bytes call.now.args)) }
     {
         for at in 0..sets_bytes(&call.args) {
-            append(list, &[self.ready_bits(call, 8 * at, 8)]);
+            append(list, &[self.ready_bits(syscall, call, 8 * at, 8)]);
         }
     }
 
     // What is told of all that a call looks at.
-    fn add_all(&self, list: &mut ArrayVec<u8, 816>, call: &Call)
+    fn add_all(&self, list: &mut ArrayVec<u8, 816>, syscall: Syscall, call: &Call)
+        requires syscall { syscall ≡ syscall_of call.now.nr }
         requires empty { list.old.items ≡ [] }
         ensures { list.new.items ≡ told_bytes (standing_of self.now) (request call.now) }
     {
-        match Syscall::of(call.nr) {
-            Syscall::Pselect6 => self.add_sets(list, call),
-            _ => self.add_told(list, call, 0, listed_count(call)),
+        match syscall {
+            Syscall::Pselect6 => self.add_sets(list, syscall, call),
+            _ => self.add_told(list, syscall, call, 0, listed_count(call)),
         }
     }
 
-    fn tell(&self, call: &Call, out: &mut Bytes)
+    fn tell(&self, syscall: Syscall, call: &Call, out: &mut Bytes)
+        requires syscall { syscall ≡ syscall_of call.now.nr }
         requires capacity { MOST_BYTES ≤ out.old.capacity }
         ensures bytes { out.new.bytes ≡ told_bytes (standing_of self.now) (request call.now) }
         ensures capacity { out.new.capacity ≡ out.old.capacity }
     {
         let mut list = ArrayVec::<u8, 816>::new();
-        self.add_all(&mut list, call);
+        self.add_all(&mut list, syscall, call);
         out.set(&list);
     }
 
@@ -300,27 +344,30 @@ impl GuestSide {
     }
 
     // Whether the call looks at such a one.
-    fn has_closed(&self, call: &Call) -> bool
+    fn has_closed(&self, syscall: Syscall, call: &Call) -> bool
+        requires { syscall ≡ syscall_of call.now.nr }
         ensures { result ≡ has_closed (standing_of self.now) (request call.now) }
     {
-        (0..count_of(call)).any(|place| self.is_closed(Polled::at(call, place)))
+        (0..count_of(syscall, call)).any(|place| self.is_closed(Polled::at(syscall, call, place)))
     }
 
     // Whether the call is refused for it: ppoll tells of it.
-    fn refuses_closed(&self, call: &Call) -> bool
+    fn refuses_closed(&self, syscall: Syscall, call: &Call) -> bool
+        requires { syscall ≡ syscall_of call.now.nr }
         ensures { result ≡ refuses_closed (syscall_of call.now.nr) (standing_of self.now) (request call.now) }
     {
-        match Syscall::of(call.nr) {
-            Syscall::Pselect6 => self.has_closed(call),
+        match syscall {
+            Syscall::Pselect6 => self.has_closed(syscall, call),
             _ => false,
         }
     }
 
     // Where nothing is ready: a wait that nothing ended is as one that a signal interrupts.
-    fn idle_answer(&self, call: &Call, until: Until) -> i32
+    fn idle_answer(&self, syscall: Syscall, call: &Call, until: Until) -> i32
+        requires { syscall ≡ syscall_of call.now.nr }
         ensures { result ≡ idle_answer (standing_of self.now) (request call.now) until }
     {
-        if self.is_at_end(call) {
+        if self.is_at_end(syscall, call) {
             return EINTR;
         }
         match until {
@@ -334,33 +381,35 @@ impl GuestSide {
     }
 
     // The result, but for what refuses a call.
-    fn poll_ret(&self, call: &Call, until: Until) -> i32
+    fn poll_ret(&self, syscall: Syscall, call: &Call, until: Until) -> i32
+        requires { syscall ≡ syscall_of call.now.nr }
         ensures { result ≡ poll_ret (standing_of self.now) (request call.now) until }
     {
-        if self.refuses_closed(call) {
+        if self.refuses_closed(syscall, call) {
             return EBADF;
         }
-        let ready = self.ready(call);
+        let ready = self.ready(syscall, call);
         if ready != 0 {
             ready as i32
         } else {
-            self.idle_answer(call, until)
+            self.idle_answer(syscall, call, until)
         }
     }
 
     /// ppoll(2) and select(2) whose wait is over at this time.
-    pub(crate) fn poll(&self, call: &Call, until: Until, out: &mut Bytes) -> i32
+    pub(crate) fn poll(&self, syscall: Syscall, call: &Call, until: Until, out: &mut Bytes) -> i32
+        requires syscall { syscall ≡ syscall_of call.now.nr }
         requires empty { out.old.bytes ≡ [] }
         requires capacity { MOST_BYTES ≤ out.old.capacity }
         ensures answer { poll_of (standing_of self.now) (request call.now) until ≡ (result, out.new.bytes) }
         ensures capacity { out.new.capacity ≡ out.old.capacity }
     {
-        if is_refused(call, until) {
+        if is_refused(syscall, call, until) {
             return EINVAL;
         }
-        let ret = self.poll_ret(call, until);
+        let ret = self.poll_ret(syscall, call, until);
         if ret >= 0 {
-            self.tell(call, out);
+            self.tell(syscall, call, out);
         }
         ret
     }

@@ -1,6 +1,7 @@
 // When a wait is over.
 ghost use Rattle.std.specs.Prelude.{◌≡◌, ◌+◌, ◌*◌, ◌^◌, ◌≤◌, ◌<◌, length, IfSome};
 ghost use Rattle.nv_calls.specs.Calls.{request};
+ghost use Rattle.nv_calls.specs.Numbers.{syscall_of};
 ghost use Rattle.nv_arriving.specs.Timing.{word, time_in, at, after, is_clock, base, poll_until, sleep_until, until_of, is_past, reaches, is_reached, sleep_wants, slept};
 ghost use Rattle.nv_arriving.specs.Views.{standing_of};
 
@@ -133,11 +134,12 @@ impl GuestSide {
     }
 
     /// When the wait of a call is over.
-    pub(crate) fn until(&self, call: &Call) -> Until
+    pub(crate) fn until(&self, syscall: Syscall, call: &Call) -> Until
+        requires { syscall ≡ syscall_of call.now.nr }
         ensures { result ≡ until_of (standing_of self.now) (request call.now) }
     {
         let bytes = call.payload.as_slice();
-        match Syscall::of(call.nr) {
+        match syscall {
             Syscall::Ppoll => self.poll_until(bytes, POLLED_BYTES * polled_count(call.args[1])),
             Syscall::Pselect6 => self.poll_until(bytes, sets_bytes(&call.args)),
             Syscall::ClockNanosleep => self.sleep_until(call),

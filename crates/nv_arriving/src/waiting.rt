@@ -2,14 +2,15 @@
 ghost use Rattle.std.specs.Prelude.{◌≡◌, ◌<◌, false, length, map, not, IfSome};
 ghost use Rattle.std.specs.List.{position_from};
 ghost use Rattle.nv_calls.specs.Calls.{request};
+ghost use Rattle.nv_calls.specs.Numbers.{syscall_of};
 ghost use Rattle.nv_arriving.specs.Arrivals.{ends, any_ends, until};
 ghost use Rattle.nv_arrivals.specs.Views.{view as arrival_of};
 ghost use Rattle.nv_arriving.specs.Views.{standing_of};
 
 use crate::guests::GuestSide;
-use crate::timing::reaches;
+use crate::timing::{Until, reaches};
 use nv_arrivals::Arrival;
-use nv_calls::Call;
+use nv_calls::{Call, Syscall};
 
 /// What a call waits for.
 #[derive(Clone, Copy)]
@@ -23,7 +24,7 @@ pub enum Want {
     /// That it is so late: seconds, and nanoseconds after them.
     Time(u32, u32),
     /// That a descriptor that it looks at is ready, or that its time has come.
-    Ready,
+    Ready(Until),
 }
 
 /// What a call takes in of the arrivals that have come.
@@ -49,7 +50,8 @@ impl Intake {
 
 impl GuestSide {
     /// Whether a call that waits for this waits no longer once that has come.
-    pub(crate) fn ends(&self, call: &Call, want: Want, arrival: &Arrival) -> bool
+    pub(crate) fn ends(&self, syscall: Syscall, call: &Call, want: Want, arrival: &Arrival) -> bool
+        requires { syscall ≡ syscall_of call.now.nr }
         ensures { result ≡ ends (standing_of self.now) (request call.now) want (arrival_of arrival.now) }
     {
         match want {
@@ -76,26 +78,40 @@ impl GuestSide {
                 Arrival::Connect(_) | Arrival::Data(_, _) | Arrival::End(_) => false,
                 Arrival::Time(now, more) => reaches(*now, *more, seconds, nanos),
             },
-            Want::Ready => self.ends_poll(call, arrival),
+            Want::Ready(until) => self.ends_poll(syscall, call, until, arrival),
         }
     }
 
     // The place of the first that ends the wait.
-    fn first_end(&self, call: &Call, want: Want, arrivals: &[Arrival]) -> Option<usize>
+    fn first_end(
+        &self,
+        syscall: Syscall,
+        call: &Call,
+        want: Want,
+        arrivals: &[Arrival],
+    ) -> Option<usize>
+        requires { syscall ≡ syscall_of call.now.nr }
         ensures is { result ≡ position_from (λ a. ends (standing_of self.now) (request call.now) want (arrival_of a)) 0 arrivals.now }
         ensures inside { IfSome result (λ place. place < length arrivals.now) }
     {
         arrivals
             .iter()
-            .position(|arrival| self.ends(call, want, arrival))
+            .position(|arrival| self.ends(syscall, call, want, arrival))
     }
 
     /// What a call takes in that waits for this, where these have come.
-    pub(crate) fn intake(&self, call: &Call, want: Want, arrivals: &[Arrival]) -> Intake
+    pub(crate) fn intake(
+        &self,
+        syscall: Syscall,
+        call: &Call,
+        want: Want,
+        arrivals: &[Arrival],
+    ) -> Intake
+        requires { syscall ≡ syscall_of call.now.nr }
         ensures count { result.count ≡ until (ends (standing_of self.now) (request call.now) want) (map arrival_of arrivals.now) }
         ensures vain { result.vain ≡ not (any_ends (ends (standing_of self.now) (request call.now) want) (map arrival_of arrivals.now)) }
     {
-        match self.first_end(call, want, arrivals) {
+        match self.first_end(syscall, call, want, arrivals) {
             Some(place) => Intake {
                 count: place + 1,
                 vain: false,

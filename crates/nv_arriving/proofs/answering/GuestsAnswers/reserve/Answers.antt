@@ -19,8 +19,8 @@ use Rattle.nv_arriving.proofs.answering.GuestsAnswers.reserve.Given.{Over}
 use Rattle.nv_arriving.proofs.answering.GuestsAnswers.reserve.Goals.{After-learn}
 use Rattle.nv_arriving.proofs.answering.GuestsAnswers.reserve.Goals as goal
 
-pub reserve-requires : goal.reserve-requires
-reserve-requires g c = record { few = shaped-few (request c.args.call.now) c.requires.shaped }
+pub reserve-requires-clause-few : goal.reserve-requires-clause-few
+reserve-requires-clause-few g c = shaped-few (request c.args.call.now) c.requires.shaped
 
 -- where more was heard
 module _ (g : Over) (c : After-learn g) where
