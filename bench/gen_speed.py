@@ -4,8 +4,8 @@
 The first table is of `gen`: for four, three and two versions, the number below 1,000,000 that makes the most writes, of 64 bytes each, in the log.
 Every run has the median of five times, and the events a second, by the events that the summary tells. The share of verdicts is the
 number of rewrites, each of which is one verdict, times what a verdict of six instructions takes (the made filter has six) in
-`crates/nv_rules_bench`, of the run's time. The second table is of `run`: a guest that makes 9,999 writes of 64 bytes, in one and in three equal
-versions. Build both programs first: `cd crates/varan && rt run -- run --script data/s data/v`, `cd crates/nv_rules_bench && rt run`.
+`nv_bench rules`, of the run's time. The second table is of `run`: a guest that makes 9,999 writes of 64 bytes, in one and in three equal
+versions. Build both programs first: `cd crates/varan && rt run -- run --script data/s data/v`, `cd crates/nv_bench && rt run -- rules`.
 """
 import os
 import re
@@ -17,7 +17,7 @@ import time
 
 from run_speed import PROGRAM, RUNS, TOP, image
 
-VERDICTS = os.path.join(TOP, "crates", "nv_rules_bench", "out", "nv_rules_bench")
+VERDICTS = [os.path.join(TOP, "crates", "nv_bench", "out", "nv_bench"), "rules"]
 WRITES, SIZE = 9_999, 64
 FILTER, VERDICT_COUNT = 6, 5_000_000
 SUMMARY = re.compile(rb"gen (\d+) versions (\d+) output (\d+) log (\d+) exited (\d+) rewrites (\d+)\n")
@@ -100,7 +100,7 @@ def main():
             script.write(b"varan-script 1\n")
         with open(os.path.join(folder, "v"), "wb") as version:
             version.write(guest())
-        verdict = timed([VERDICTS, str(FILTER), str(VERDICT_COUNT)], out) / VERDICT_COUNT
+        verdict = timed([*VERDICTS, str(FILTER), str(VERDICT_COUNT)], out) / VERDICT_COUNT
         print("| Number | Versions | Writes | Events | Rewrites | Seconds | Events/s | Share of verdicts |")
         print("|---|---|---|---|---|---|---|---|")
         for versions in (4, 3, 2):

@@ -3,13 +3,13 @@
 
     bench/machine_loops.py [RUNS] [--before PROGRAM] [--host]
 
-First `step` in a bare loop, on the three guests of crates/nv_machine_bench: that program beside bench/machine_loops.c, which decodes at each step, with `step` as a call of its own, compiled into
-the loop, and as a call with the addresses of the code kept for fetches; and beside bench/machine_decoded.c, which decodes once. All must print the same. `--before` names another build of the
-machine's program, as one from before a change.
+First `step` in a bare loop, on the three guests of `nv_bench machine`: that program beside bench/machine_loops.c, which decodes at each step, with `step` as a call of its own, compiled into
+the loop, and as a call with the addresses of the code kept for fetches; and beside bench/machine_decoded.c, which decodes once. All must print the same. `--before` names another build of
+nv_bench, as one from before a change.
 
 Then whole programs from the stock compiler: loops over arrays (bench/machine_kernels.c), and Lua and bzip2 as examples/strangers builds them from Debian's sources, which it fetches where that wasn't
-done. They are run by crates/nv_thread_bench (`Process::advance`, what they write let go), by `varan run` on one thread (log and report with it), by bench/machine_decoded.c, as it is and decoding each
-time, and by qemu-riscv32. Before they are timed, the C interpreter has to write and to exit as qemu does, and to make as many calls and instructions as crates/nv_thread_bench.
+done. They are run by `nv_bench threads` (`Process::advance`, what they write let go), by `varan run` on one thread (log and report with it), by bench/machine_decoded.c, as it is and decoding each
+time, and by qemu-riscv32. Before they are timed, the C interpreter has to write and to exit as qemu does, and to make as many calls and instructions as `nv_bench threads`.
 
 All are run in turn, RUNS times (9). The tables have the medians and the bests of their processor times (user and system), and ratios of both. `--host` adds the host instructions of a guest's
 instruction, by valgrind, which don't depend on the load and take a quarter of an hour. Programs of this repository are taken as `rt ci` built them, or built by `rt run` where there is none.
@@ -25,7 +25,7 @@ import subprocess
 import sys
 import tempfile
 
-from thread_loops import built, counted
+from thread_loops import built, counted, timed_program
 
 TOP = os.path.dirname(os.path.dirname(os.path.abspath(__file__)))
 BENCH = os.path.join(TOP, "bench")
@@ -71,12 +71,12 @@ def ratio(other, ours):
 # `step` in a bare loop
 
 def bare_programs(room, before):
-    programs = {"machine": built("nv_machine_bench", "count", "1")}
+    programs = {"machine": timed_program("machine")}
     if before:
-        programs["machine before"] = before
+        programs["machine before"] = [before, "machine"]
     for name, flags in (("C, step called", []), ("C, step inlined", ["-DINLINE"]), ("C, called, code kept", ["-DCODE"])):
-        programs[name] = compiled(room, "machine_loops.c", flags)
-    programs["C, decoding once"] = compiled(room, "machine_decoded.c", [])
+        programs[name] = [compiled(room, "machine_loops.c", flags)]
+    programs["C, decoding once"] = [compiled(room, "machine_decoded.c", [])]
     return programs
 
 
@@ -85,13 +85,13 @@ def bare_loops(runs, room, before, host):
     print("| Guest | Program | Seconds: median, best | It / machine: median, best |" + (" Host instructions |" if host else ""))
     print("|---|---|---|---|" + ("---|" if host else ""))
     for guest in ("count", "memory", "calls"):
-        times, wrote = in_turn(runs, {name: ([program, guest, str(STEPS)], os.devnull) for name, program in programs.items()})
+        times, wrote = in_turn(runs, {name: ([*program, guest, str(STEPS)], os.devnull) for name, program in programs.items()})
         if len(set().union(*wrote.values())) != 1:
             sys.exit(f"{guest}: they write different things: {wrote}")
         for name, took in times.items():
             share = ""
             if host:
-                share = f" {(counted([programs[name], guest, str(COUNTED)]) - counted([programs[name], guest, '0'])) / COUNTED:.1f} |"
+                share = f" {(counted([*programs[name], guest, str(COUNTED)]) - counted([*programs[name], guest, '0'])) / COUNTED:.1f} |"
             print(f"| `{guest}` | {name} | {statistics.median(took):.3f}, {min(took):.3f} | {ratio(took, times['machine'])} |{share}", flush=True)
 
 
@@ -139,7 +139,7 @@ def commands_of(room, interpreters, guest, most=MOST):
     words = [file, str(mib), str(most), given]
     run = ["run", "--threads", "1", "--memory", str(mib << 20), "--budget", str(most), "--script", script_of(room, given), file]
     return {
-        "advance": ([built("nv_thread_bench", "one", "1"), *words], os.devnull),
+        "advance": ([*timed_program("threads"), *words], os.devnull),
         "varan run": ([built("varan", "run", "--script", "data/s", "data/v"), *run], os.devnull),
         "C, decoding once": ([interpreters["once"], *words], os.devnull),
         "C, decoding each time": ([interpreters["each"], *words], os.devnull),
@@ -157,7 +157,7 @@ def agreed(room, interpreters, guest, commands):
         sys.exit(f"{name}: they do different things: {lines}")
     for program in interpreters.values():
         output = os.path.join(room, "output")
-        subprocess.run([program, *commands["advance"][0][1:], output], check=True, capture_output=True)
+        subprocess.run([program, *commands["advance"][0][2:], output], check=True, capture_output=True)
         with open(output, "rb") as file:
             if file.read() != linux.stdout:
                 sys.exit(f"{name}: the C interpreter writes something else than under qemu")

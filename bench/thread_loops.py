@@ -3,13 +3,13 @@
 
     bench/thread_loops.py [RUNS] [--before FOLDER] [--answers PROGRAM]
 
-A guest that counts down (`addi`, `bne`) runs for the same number of instructions as crates/nv_machine_bench calls `step`, as crates/nv_thread_bench calls `Process::advance`, in one
+A guest that counts down (`addi`, `bne`) runs for the same number of instructions as `nv_bench machine` calls `step`, as `nv_bench threads` calls `Process::advance`, in one
 thread and in eight that take turns, and as one version under `varan run` on one thread. Beside them the plain C interpreters of bench/machine_loops.c, with `step` as a call of its own
 and compiled into the loop, and of bench/machine_decoded.c, which decodes once. Runs them in turn (11 times by default), and prints the medians and the best of their processor times in millions of instructions a second, the speed
 of each against `step`, and how many times its time C takes. With valgrind it also prints the host instructions of each guest instruction, which don't depend on the load.
 
-Then a guest that reads, whose calls crates/nv_thread_bench answers with 4,096 bytes: nanoseconds an answer. `--before` names a folder with other builds of varan and nv_thread_bench, as
-from before a change, whose loops are timed as well, and `--answers` another build of nv_thread_bench that answers.
+Then a guest that reads, whose calls `nv_bench threads` answers with 4,096 bytes: nanoseconds an answer. `--before` names a folder with other builds of varan and nv_bench, as
+from before a change, whose loops are timed as well, and `--answers` another build of nv_bench that answers.
 
 Takes the programs as `rt ci` built them, or builds those that aren't there with `rt run`.
 """
@@ -38,22 +38,27 @@ def built(crate, *words):
     return program
 
 
+def timed_program(module):
+    """The words that a run of nv_bench begins with, which name what is timed."""
+    return [built("nv_bench", "machine", "count", "1"), module]
+
+
 class Programs:
     """What runs the guest, by name: the words of a run of so many instructions."""
 
     def __init__(self, room, before):
         self.room = room
-        machine, threads = built("nv_machine_bench", "count", "1"), built("nv_thread_bench", "one", "1")
+        machine, threads = timed_program("machine"), timed_program("threads")
         self.write("s", b"varan-script 1\n")
         self.words = {
-            "step": lambda steps: [machine, "count", str(steps)],
-            "advance, one thread": lambda steps: [threads, "one", str(steps)],
-            "advance, eight threads": lambda steps: [threads, "eight", str(steps)],
+            "step": lambda steps: [*machine, "count", str(steps)],
+            "advance, one thread": lambda steps: [*threads, "one", str(steps)],
+            "advance, eight threads": lambda steps: [*threads, "eight", str(steps)],
             "varan run": lambda steps: self.run_of(PROGRAM, steps),
         }
         if before:
-            other = os.path.join(before, "nv_thread_bench")
-            self.words["advance, one thread, before"] = lambda steps: [other, "one", str(steps)]
+            other = os.path.join(before, "nv_bench")
+            self.words["advance, one thread, before"] = lambda steps: [other, "threads", "one", str(steps)]
             self.words["varan run, before"] = lambda steps: self.run_of(os.path.join(before, "varan"), steps)
         for name, source, flags in (
                 ("C, step called", "machine_loops.c", []), ("C, step inlined", "machine_loops.c", ["-DINLINE"]), ("C, decoding once", "machine_decoded.c", [])):
@@ -107,13 +112,12 @@ READS = {"answers": 4_000_000, "answers, the other build": 400_000}
 
 
 def print_answers(runs, other):
-    threads = built("nv_thread_bench", "one", "1")
-    programs = {"answers": threads, **({"answers, the other build": other} if other else {})}
+    programs = {"answers": timed_program("threads"), **({"answers, the other build": [other, "threads"]} if other else {})}
     times = {name: [] for name in programs}
     for _ in range(runs):
         for name, program in programs.items():
-            idle = timed([program, "answers", "4"])
-            times[name].append((timed([program, "answers", str(READS[name])]) - idle) / (READS[name] / 4))
+            idle = timed([*program, "answers", "4"])
+            times[name].append((timed([*program, "answers", str(READS[name])]) - idle) / (READS[name] / 4))
     print("\n| An answer of 4,096 bytes | ns: median, best |\n|---|---|")
     for name, took in times.items():
         print(f"| {name} | {statistics.median(took) * 1e9:.1f}, {min(took) * 1e9:.1f} |")

@@ -7,9 +7,9 @@ Where a loop lies in a line of 64 bytes can cost half of its time again, in eith
 further on, and a program's time is that of its best place. All are run in turn, RUNS times (9), each run a process; the table has the medians of their processor times (user and system), in
 nanoseconds a verdict, and of the best place also the least. With valgrind it has the host instructions of a verdict too, which depend neither on the place nor on the load.
 
-`--before` names the object of another build of crates/nv_rules_bench (out/nv_rules_bench.o), as one from before a change.
+`--before` names the object of another build of crates/nv_bench (out/nv_bench.o), as one from before a change.
 
-Takes the object as `rt ci` left it, or has `rt run` make it; links it as these do. Needs cc, nm and the kit's `rt` in PATH.
+The verdicts are those of `nv_bench rules`. Takes the object as `rt ci` left it, or has `rt run` make it; links it as these do. Needs cc, nm and the kit's `rt` in PATH.
 """
 import argparse
 import os
@@ -21,7 +21,7 @@ import subprocess
 import sys
 import tempfile
 
-from thread_loops import TOP, built, counted
+from thread_loops import TOP, counted, timed_program
 
 PLACES = (0, 16, 32, 48)
 VERDICTS = {10: 5_000_000, 4096: 20_000}
@@ -57,41 +57,41 @@ def start(program):
     return int(re.search(r"^(\w+) T main$", names, re.M)[1], 16)
 
 
-def placed(room, name, link, code):
-    """The program once for each place."""
+def placed(room, name, link, code, *words):
+    """The program once for each place, with the words that its runs begin with."""
     programs = [os.path.join(room, f"{name} {place}") for place in PLACES]
     for place, program in zip(PLACES, programs):
         link([padding(room, place), code], program)
         if start(program) - start(programs[0]) != place:
             sys.exit(f"{name}: its code doesn't lie {place} bytes further on")
-    return programs
+    return [[program, *words] for program in programs]
 
 
 def object_built():
     """The object of the program. One that was kept from an earlier run is there without it: then it is built once more."""
-    program = built("nv_rules_bench", "10", "1")
+    program, _ = timed_program("rules")
     if not os.path.exists(program + ".o"):
         os.remove(program)
-        built("nv_rules_bench", "10", "1")
+        timed_program("rules")
     return program + ".o"
 
 
 def all_programs(room, before):
     c = os.path.join(room, "c.o")
     subprocess.run(["cc", "-O2", "-c", "-o", c, os.path.join(TOP, "bench", "verdict_baseline.c")], check=True)
-    programs = {"C": placed(room, "C", link_c, c), "verdicts": placed(room, "verdicts", link_ours, object_built())}
+    programs = {"C": placed(room, "C", link_c, c), "verdicts": placed(room, "verdicts", link_ours, object_built(), "rules")}
     if before:
-        programs["verdicts before"] = placed(room, "verdicts before", link_ours, before)
+        programs["verdicts before"] = placed(room, "verdicts before", link_ours, before, "rules")
     return programs
 
 
 def timed(program, count, verdicts):
     before = resource.getrusage(resource.RUSAGE_CHILDREN)
-    done = subprocess.run([program, str(count), str(verdicts)], check=True, capture_output=True, text=True).stdout
+    done = subprocess.run([*program, str(count), str(verdicts)], check=True, capture_output=True, text=True).stdout
     after = resource.getrusage(resource.RUSAGE_CHILDREN)
     total = (verdicts * (verdicts - 1) // 2 + verdicts * (count - 2)) % 2**32
     if done != f"{count} {verdicts} {total}\n":
-        sys.exit(f"{program} printed {done!r}")
+        sys.exit(f"{' '.join(program)} printed {done!r}")
     return after.ru_utime + after.ru_stime - before.ru_utime - before.ru_stime
 
 
@@ -108,7 +108,7 @@ def times_of(programs, runs, count):
 
 def host_instructions(program, count):
     few, many = COUNTED[count], 2 * COUNTED[count]
-    return (counted([program, str(count), str(many)]) - counted([program, str(count), str(few)])) / few
+    return (counted([*program, str(count), str(many)]) - counted([*program, str(count), str(few)])) / few
 
 
 def print_rows(programs, runs, count):
