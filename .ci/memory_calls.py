@@ -15,7 +15,7 @@ TOP = pathlib.Path(__file__).resolve().parent.parent
 PAGE = "docs/inside/ARCHITECTURE.md"
 LEFT_OUT = re.compile(r"_(tests|bench|laws|harness)$|^nv_rows$")
 CALL = re.compile(r"^( *)(pub )?(?:final )?fn (\w+)(?:<[^{;]*?>)?\(([^{;]*?)\)(?: -> ([^{;]*?))?(?=\s*(?:;|requires|ensures|where|\{))", re.M | re.S)
-OWNER = re.compile(r"^(impl|pub trait|trait)(?:<[^>]*>)? (\w+)([^{\n]*)", re.M)
+OWNER = re.compile(r"^(impl|pub trait|trait)(?:<(?:[^<>]|<[^<>]*>)*>)? (\w+)([^{\n]*)", re.M)
 CASES = re.compile(r"^pub enum (\w+)[^{]*\{(.*?)^\}", re.M | re.S)
 MEMORY = re.compile(r"^    Memory\b", re.M)
 PATH = re.compile(r"`(nv_\w+(?:::\w+)+)`")

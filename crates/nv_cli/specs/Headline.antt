@@ -22,7 +22,7 @@ use Rattle.nv_driver.specs.Causes.{cause_text}
 use Rattle.nv_driver.specs.Due.{RunComesTo, made_outcome, RunOwes, JobOwes, GenOwes, lack_outcome, traced_outcome, TrailOwes, replayed, files_after, shown_of, shown, RecordComesTo, RecordOwes, ServeComesTo, ServeOwes, Owes, OwesAny, IsDue, IsUntouched, Shows, Says, Answers, ServedOver, Over, AnswersOver, IsReady, IsMade, IsTraced, IsAccepted, IsRefusedAt, IsRefusedFor, IsRefusedOn, IsRefused as nv_driver_IsRefused, IsReport, IsDone, Completes, Rejects}
 use Rattle.nv_driver.specs.Found.{FILE_LIMIT, TRACE_LIMIT, TRANSCRIPT_LIMIT, script_limit, is_longer, TookMore, Found, IsReadWithin, IsLongerThan, AgreesWithin, Agrees, ScriptAgrees, AllAgree, AgreesIf, Finds, AreFound, found_whole, found_within, found_of, script_found, finds_of}
 use Rattle.nv_driver.specs.Generated.{IsMadeRun}
-use Rattle.nv_driver.specs.Live.{bare_text, after_first_line, whole_lines, transcript_head, unless_comes, without_arrivals, as_begun, live_script, after_live_script, live_prepared, AgreesOrBare, AreLiveFound, found_or_bare, live_finds_of, with_arrivals, with_hands, Streams, Unserved, ended_by_writes, ending_of, Lived}
+use Rattle.nv_driver.specs.Live.{bare_text, after_first_line, whole_lines, transcript_head, unless_comes, without_arrivals, as_begun, live_script, after_live_script, live_prepared, AgreesOrBare, AreLiveFound, found_or_bare, live_finds_of, with_arrivals, with_hands, Streams, Unserved, ended_by_writes, ending_of, StoodAt, Lived}
 use Rattle.nv_driver.specs.Made.{accepted_text, accepted_filter, of_rules, of_program, used, unless_refused, made_of}
 use Rattle.nv_driver.specs.Outcome.{Outcome, account_text, totals_of, ending_status, refused_text, text_of as nv_driver_text_of, outcome_status, ended_with, name_at, limit_at, name_in as nv_driver_name_in, name_on, limit_on, Source, source_of}
 use Rattle.nv_driver.specs.Prepared.{VersionOf, of_loaded, of_elf, version_from, Prepared, read_at, with_first_machine, version_then, versions_from, judged_by, rules_then, after_rules, after_script, prepared}
@@ -88,7 +88,7 @@ use Rattle.nv_live.specs.Lines.{parts_after, parts, line_with as nv_live_line_wi
 use Rattle.nv_live.specs.Live.{stop_with, plain_bytes, plain_text}
 use Rattle.nv_live.specs.Run.{CameBy, said_text}
 use Rattle.nv_live.specs.SaidLines.{head_of, said_lines}
-use Rattle.nv_live.specs.Source.{Gave, Reads, faults_by_read}
+use Rattle.nv_live.specs.Source.{Gave, Reads, faults_by_read, Moment, moment_of, Asked}
 use Rattle.nv_live.specs.Taking.{faults_by_stop, is_plain_stop, Took}
 use Rattle.nv_live.specs.Transcript.{hand_text, note_of, notes_on}
 use Rattle.nv_blocks.specs.Contents.{with_bytes}

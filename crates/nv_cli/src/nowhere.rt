@@ -1,5 +1,5 @@
 // Streams of a call that is handed none.
-use nv_live::{Read, Source};
+use nv_live::{Read, ReadBeside, Source};
 use nv_outside::{Sink, Wrote};
 
 /// A stream at its end, where what is written is gone. It tells nothing, and never fails.
@@ -13,11 +13,15 @@ impl Source for Nowhere {
 
     ghost faults = { λ _. 0 };
 
-    fn read(&mut self, _room: &mut [u8]) -> Read {
-        Read::Count(0)
-    }
+    ghost moments = { λ _. None };
 
     fn waits_to(&mut self, _seconds: u32, _nanos: u32) {}
+}
+
+impl<O: Sink, T: Sink> ReadBeside<O, T> for Nowhere {
+    fn read(&mut self, _room: &mut [u8], _said: &O, _noted: &T) -> Read {
+        Read::Count(0)
+    }
 }
 
 impl Sink for Nowhere {

@@ -10,7 +10,7 @@ use crate::serving::Left;
 use crate::varan_over;
 use nv_command::LineFault;
 use nv_driver::{Ending, WRITE_FAULT, ended, ending_status, refuse_words};
-use nv_live::{Source, Streams};
+use nv_live::{ReadBeside, Streams};
 use nv_outside::{Files, Gathering, Sink};
 use nv_workers::Gate;
 use std::alloc::Global;
@@ -23,7 +23,7 @@ fn answer<
     F: Files,
     S: Sink,
     G: Gate + Sync,
-    I: Source + Send,
+    I: ReadBeside<O, T> + Send,
     O: Sink + Drop + Send,
     T: Sink + Drop + Send,
 >(
@@ -36,9 +36,9 @@ fn answer<
     streams: Streams<I, O, T>,
 ) -> (u8, Left<I, O, T>)
     ensures { ProgramAnswers words (source_of F.holds F.faults F.taken files.old files.new)
-        (streams_of I.took I.faults O.told O.faults T.told T.faults streams)
+        (streams_of I.took I.faults I.moments O.told O.faults T.told T.faults streams)
         (S.told sink.old) (S.faults sink.old) result.0 (S.told sink.new) (S.faults sink.new)
-        (left_of I.took I.faults O.told O.faults T.told T.faults result.1) }
+        (left_of I.took I.faults I.moments O.told O.faults T.told T.faults result.1) }
 {
     match words {
         Ok(words) => varan_over(rt, alloc, &words, files, sink, gate, streams),
@@ -77,7 +77,7 @@ pub fn program<
     F: Files,
     S: Sink,
     G: Gate + Sync,
-    I: Source + Send,
+    I: ReadBeside<O, T> + Send,
     O: Sink + Drop + Send,
     T: Sink + Drop + Send,
 >(
@@ -92,9 +92,9 @@ pub fn program<
     // It comes to an outcome that the words and the files owe, and that stands on the sink at the end; or the write that failed was its last. So does what a live run does over its streams. What `varan`
     // says of files that are accepted or refused, it says of the status of what is said; the process ends with that, or with the status of a stream that failed.
     ensures { ProcessEnds words (source_of F.holds F.faults F.taken files.old files.new)
-        (streams_of I.took I.faults O.told O.faults T.told T.faults streams)
+        (streams_of I.took I.faults I.moments O.told O.faults T.told T.faults streams)
         (S.told sink) (S.faults sink) result.1 (S.told result.0) (S.faults result.0)
-        (left_of I.took I.faults O.told O.faults T.told T.faults result.2) }
+        (left_of I.took I.faults I.moments O.told O.faults T.told T.faults result.2) }
 {
     // A report is put in some twenty small pieces an event: the sink gets them gathered.
     let mut sink = Gathering::make(sink);

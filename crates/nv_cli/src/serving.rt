@@ -19,7 +19,7 @@ use nv_command::{Limits, Service};
 use nv_driver::{
     Ending, LivePrepared, MEMORY, how_ended, prepare_live, put_line, refuse_live, status,
 };
-use nv_live::{LiveRun, Source, Streams, Telling};
+use nv_live::{LiveRun, ReadBeside, Streams, Telling};
 use nv_outside::{Files, Sink};
 use nv_replay::{Account, Version};
 use nv_script::Script;
@@ -32,7 +32,7 @@ use std::thread::Threads;
 pub type Left<I, O, T> = (Streams<I, O, T>, Ending);
 
 // A kernel over what comes by these streams, of which the transcript gets its head. Where memory is wanted they come back.
-fn kernel_over<I: Source + Send, O: Sink + Drop + Send, T: Sink + Drop + Send>(
+fn kernel_over<I: ReadBeside<O, T> + Send, O: Sink + Drop + Send, T: Sink + Drop + Send>(
     alloc: Global,
     script: &Script,
     clients: bool,
@@ -40,8 +40,8 @@ fn kernel_over<I: Source + Send, O: Sink + Drop + Send, T: Sink + Drop + Send>(
     streams: Streams<I, O, T>,
 ) -> Result<ArrivingKernel<LiveRun<I, O, T>>, Streams<I, O, T>>
     requires script { IsTrue (is_script (setup_of script.now)) }
-    ensures begun { IfOk result (λ k. IsBegunOver I.took I.faults O.told O.faults T.told T.faults clients (setup_of script.now) head.now streams k) }
-    ensures unused { IfErr result (IsUnused I.took I.faults O.told O.faults T.told T.faults head.now streams) }
+    ensures begun { IfOk result (λ k. IsBegunOver I.took I.faults I.moments O.told O.faults T.told T.faults clients (setup_of script.now) head.now streams k) }
+    ensures unused { IfErr result (IsUnused I.took I.faults I.moments O.told O.faults T.told T.faults head.now streams) }
 {
     let live = match LiveRun::begin(alloc, clients, streams, head, &script.hands) {
         Ok(live) => live,
@@ -63,7 +63,7 @@ fn starve<S: Sink, I, O, T>(sink: &mut S, streams: Streams<I, O, T>) -> (u8, Lef
 }
 
 // What a run has left of its streams; what no call took is shown in the transcript.
-fn left_by<I: Source, O: Sink + Drop, T: Sink + Drop>(
+fn left_by<I: ReadBeside<O, T>, O: Sink + Drop, T: Sink + Drop>(
     mut live: LiveRun<I, O, T>,
 ) -> (Streams<I, O, T>, Ending)
     ensures { HasLeft T.told T.faults live result.0 result.1 }
@@ -102,7 +102,7 @@ fn serve_versions<
     R: Threads + Wait + Sync,
     S: Sink,
     G: Gate + Sync,
-    I: Source + Send,
+    I: ReadBeside<O, T> + Send,
     O: Sink + Drop + Send,
     T: Sink + Drop + Send,
 >(
@@ -116,8 +116,8 @@ fn serve_versions<
     gate: &G,
 ) -> (u8, Left<I, O, T>)
     requires ready { IsReadyToServe prepared }
-    ensures { ServeSays (limits_view limits) clients prepared (streams_of I.took I.faults O.told O.faults T.told T.faults streams)
-        (S.told sink.old) (S.faults sink.old) result.0 (S.told sink.new) (S.faults sink.new) (left_of I.took I.faults O.told O.faults T.told T.faults result.1) }
+    ensures { ServeSays (limits_view limits) clients prepared (streams_of I.took I.faults I.moments O.told O.faults T.told T.faults streams)
+        (S.told sink.old) (S.faults sink.old) result.0 (S.told sink.new) (S.faults sink.new) (left_of I.took I.faults I.moments O.told O.faults T.told T.faults result.1) }
 {
     let LivePrepared {
         head,
@@ -156,7 +156,7 @@ pub fn serve<
     F: Files,
     S: Sink,
     G: Gate + Sync,
-    I: Source + Send,
+    I: ReadBeside<O, T> + Send,
     O: Sink + Drop + Send,
     T: Sink + Drop + Send,
 >(
@@ -170,9 +170,9 @@ pub fn serve<
 ) -> (u8, Left<I, O, T>)
     ensures { (words : List (List ℕ)) → command_of words ≡ Some (Serves (service_view service.now))
         → AnswersOver words (source_of F.holds F.faults F.taken files.old files.new)
-        (streams_of I.took I.faults O.told O.faults T.told T.faults streams)
+        (streams_of I.took I.faults I.moments O.told O.faults T.told T.faults streams)
         (S.told sink.old) (S.faults sink.old) result.0 (S.told sink.new) (S.faults sink.new)
-        (left_of I.took I.faults O.told O.faults T.told T.faults result.1) }
+        (left_of I.took I.faults I.moments O.told O.faults T.told T.faults result.1) }
 {
     match prepare_live(alloc, files, service) {
         Ok(prepared) => serve_versions(

@@ -35,7 +35,7 @@ use nv_driver::{
     refuse, refuse_words, starved, status,
 };
 use nv_gen::Totals;
-use nv_live::{Source, Streams};
+use nv_live::{ReadBeside, Streams};
 use nv_outside::{Files, Put, Sink, put_pieces};
 use nv_replay::{Account, Version};
 use nv_served::{Recorded, SyscallKernel};
@@ -250,7 +250,7 @@ fn answer<
     F: Files,
     S: Sink,
     G: Gate + Sync,
-    I: Source + Send,
+    I: ReadBeside<O, T> + Send,
     O: Sink + Drop + Send,
     T: Sink + Drop + Send,
 >(
@@ -263,9 +263,9 @@ fn answer<
     streams: Streams<I, O, T>,
 ) -> (u8, Left<I, O, T>)
     ensures { AnswersOver (texts words.now) (source_of F.holds F.faults F.taken files.old files.new)
-        (streams_of I.took I.faults O.told O.faults T.told T.faults streams)
+        (streams_of I.took I.faults I.moments O.told O.faults T.told T.faults streams)
         (S.told sink.old) (S.faults sink.old) result.0 (S.told sink.new) (S.faults sink.new)
-        (left_of I.took I.faults O.told O.faults T.told T.faults result.1) }
+        (left_of I.took I.faults I.moments O.told O.faults T.told T.faults result.1) }
 {
     match nv_command::read(alloc, words) {
         Ok(Command::Serve(service)) => serve(rt, alloc, files, sink, gate, &service, streams),
@@ -309,7 +309,7 @@ pub fn varan_over<
     F: Files,
     S: Sink,
     G: Gate + Sync,
-    I: Source + Send,
+    I: ReadBeside<O, T> + Send,
     O: Sink + Drop + Send,
     T: Sink + Drop + Send,
 >(
@@ -323,9 +323,9 @@ pub fn varan_over<
 ) -> (u8, Left<I, O, T>)
     // It comes to an outcome that the words and the files owe, and says it: its status and what it writes are that outcome's, and so is what a live run does over its streams.
     ensures answers { AnswersOver (texts words.now.items) (source_of F.holds F.faults F.taken files.old files.new)
-        (streams_of I.took I.faults O.told O.faults T.told T.faults streams)
+        (streams_of I.took I.faults I.moments O.told O.faults T.told T.faults streams)
         (S.told sink.old) (S.faults sink.old) result.0 (S.told sink.new) (S.faults sink.new)
-        (left_of I.took I.faults O.told O.faults T.told T.faults result.1) }
+        (left_of I.took I.faults I.moments O.told O.faults T.told T.faults result.1) }
 
     // Files that are accepted and no fault: the command's work is done, or memory is wanted.
     ensures completes { Completes (texts words.now.items) (source_of F.holds F.faults F.taken files.old files.new)

@@ -306,6 +306,7 @@ pub unserved : (streams : Streams) → Unserved streams streams
 unserved streams = record {
   read = refl;
   unread = refl;
+  moments = refl;
   said = refl;
   unsaid = refl;
   head = [];

@@ -12,6 +12,7 @@ use Rattle.nv_command.specs.Words.{Limits, Service}
 use Rattle.nv_live.specs.Lines.{held_text}
 use Rattle.nv_live.specs.Live.{stop_with}
 use Rattle.nv_live.specs.Run.{CameBy, said_text}
+use Rattle.nv_live.specs.Source.{Moment, Asked}
 use Rattle.nv_live.specs.Transcript.{notes_on}
 use Rattle.nv_live.specs.declared.incoming.Stopped.{Stopped}
 use Rattle.nv_live.specs.declared.incoming.Stopped.TheVariants as stop
@@ -100,10 +101,11 @@ with_arrivals setup arrivals = record setup { arrivals = arrivals }
 abbrev pub with_hands : Setup → List ℕ → Setup
 with_hands setup lengths = record setup { hands = setup.hands ++ lengths }
 
--- What standard input, standard output and the transcript tell: what each read gave, what was written, and how often each of them has failed.
+-- What standard input, standard output and the transcript tell: what each read gave and how things stood when it was made, what was written, and how often each of them has failed.
 pub record Streams : Type 0 where
   pub read : Option (List (List ℕ))
   pub unread : ℕ
+  pub moments : Option (List Moment)
   pub said : Option (List ℕ)
   pub unsaid : ℕ
   pub noted : Option (List ℕ)
@@ -113,6 +115,7 @@ pub record Streams : Type 0 where
 pub record Unserved (before after : Streams) : Type 0 where
   pub read : after.read ≡ before.read
   pub unread : after.unread ≡ before.unread
+  pub moments : after.moments ≡ before.moments
   pub said : after.said ≡ before.said
   pub unsaid : after.unsaid ≡ before.unsaid
   pub head : List ℕ
@@ -135,6 +138,18 @@ ending_of (Some stop.Unwritten) said told = ended_by_writes said told
 ending_of (Some stop.Ended) said told = ended_by_writes said told
 ending_of None said told = ended_by_writes said told
 
+-- How things stood when standard input was read at this moment, in the midst of what was done: all that was read before was taken, but for a line that had begun; just what was said by then stood on standard output, all of it;
+-- and the lines of just what was taken and handed over by then stood in the transcript, behind its head, up to a write that failed.
+pub record StoodAt (clients : Bool) (before : Streams) (head : List ℕ) (done : List Doing) (moment : Moment) : Type 0 where
+  pub earlier : List Doing
+  pub later : List Doing
+  pub parted : done ≡ earlier ++ later
+  pub line : List ℕ
+  pub came : CameBy clients before.read moment.read before.unread moment.unread None line [] (takings earlier) (handings earlier)
+  pub said : Puts before.said before.unsaid (said_text clients (sayings earlier)) (Ok tt) moment.said moment.unsaid
+  pub told : Put
+  pub noted : Puts before.noted before.unnoted (head ++ notes_on earlier) told moment.noted moment.unnoted
+
 -- A live run over these streams, by its log: what was taken and what was said are each in the log's order. `in_order` relates the two where nothing was late, and no field ties `late` to the run.
 -- No call waited in vain, or a stream had stopped: a read that failed or gave nothing, a line that was refused or cut off, or a failed write of what was said. So the guests were told of no end without one.
 -- The bytes are those of the streams: what was read, as plain input or as lines of clients, and so is what no call took; the bytes or the lines of what was said; and the transcript. That begins with a text that
@@ -154,6 +169,7 @@ pub record Lived (clients : Bool) (setup : Setup) (log : List Entry) (ending : E
   pub written : Puts before.said before.unsaid (said_text clients (sayings done)) said after.said after.unsaid
   pub head : List ℕ
   pub begins : script_of head ≡ Ok (with_arrivals setup [])
+  pub asked : Asked before.moments after.moments (StoodAt clients before head done)
   pub reads : All BringsBytes setup.arrivals → script_of (head ++ notes_on done) ≡ Ok (with_hands setup (handings done))
   pub told : Put
   pub noted : Puts before.noted before.unnoted ((head ++ notes_on done) ++ held_text line held) told after.noted after.unnoted

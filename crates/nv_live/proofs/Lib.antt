@@ -1,8 +1,10 @@
 pub mod Taking
 pub mod Coming
+pub mod Asking
 pub mod Noting
 pub mod Doing
 pub mod Serving
+pub mod InTurn
 pub mod Stopping
 pub mod Parts
 pub mod InMemory

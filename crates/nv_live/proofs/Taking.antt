@@ -33,11 +33,11 @@ held_drop bytes start end count fits =
 
 -- ---- what reads gave
 
-pub gave-none : (a : Option (List (List ℕ))) → Gave a [] a
+pub gave-none : {X : Type 0} (a : Option (List X)) → Gave a [] a
 gave-none None = tt
 gave-none (Some a) = sym (append-nil a)
 
-pub gave-then : (a b c : Option (List (List ℕ))) (x y : List (List ℕ)) → Gave a x b → Gave b y c → Gave a (x ++ y) c
+pub gave-then : {X : Type 0} (a b c : Option (List X)) (x y : List X) → Gave a x b → Gave b y c → Gave a (x ++ y) c
 gave-then a b None x y p q = tt
 gave-then None None (Some c) x y p q = q
 gave-then None (Some b) (Some c) x y p q = p

@@ -1,5 +1,5 @@
 -- The outside of a live run of many clients: what was taken, what was said, and the transcript.
-use Rattle.std.specs.Prelude.{◌≡◌, ℕ, true, List, ◌++◌, length, Option}
+use Rattle.std.specs.Prelude.{◌≡◌, ℕ, true, List, [], ◌++◌, length, Option, None}
 use Rattle.std.specs.List.{flat_map}
 use Rattle.nv_arrivals.specs.Doings.{Doing, Said, takings, sayings, handings}
 use Rattle.nv_live.specs.declared.incoming.Stopped.{Stopped}
@@ -8,9 +8,10 @@ use Rattle.nv_live.specs.declared.said_lines.SaidLines.{SaidLines}
 use Rattle.nv_live.specs.declared.coming_lines.ComingLines.{ComingLines}
 use Rattle.nv_live.specs.declared.clients.Clients.{Clients}
 use Rattle.nv_live.specs.declared.hand_overs.HandOvers.{HandOvers}
-use Rattle.nv_live.specs.ComingLines.{HasCome}
+use Rattle.nv_live.specs.ComingLines.{held_from, HasCome}
 use Rattle.nv_live.specs.Live.{stop_with}
 use Rattle.nv_live.specs.SaidLines.{said_lines}
+use Rattle.nv_live.specs.Source.{Moment, moment_of, Asked}
 use Rattle.nv_live.specs.Transcript.{notes_on}
 use Rattle.nv_live.specs.Writer.{Written, WritesOn}
 use Rattle.nv_script.specs.Scripts.{are_hands}
@@ -48,3 +49,25 @@ pub record DidLines {I O T : Type 0} (took : I → Option (List (List ℕ))) (un
 abbrev pub DoesLines : {I O T : Type 0} → (I → Option (List (List ℕ))) → (I → ℕ) → (O → Option (List ℕ)) → (O → ℕ) → (T → Option (List ℕ)) → (T → ℕ) → Clients I O T → Clients I O T → List Doing → Type 0
 DoesLines took unread said unsaid noted unnoted old new more = (first : Clients _ _ _) (done : List Doing)
     → DidLines took unread said unsaid noted unnoted first old done → DidLines took unread said unsaid noted unnoted first new (done ++ more)
+
+-- How things stood at this moment, in the midst of what was done: all that was read before was taken, but for the beginning of a line; what was done by then stands in the sinks; and something could come.
+pub record StoodAmong {I O T : Type 0} (took : I → Option (List (List ℕ))) (unread : I → ℕ) (said : O → Option (List ℕ)) (unsaid : O → ℕ) (noted : T → Option (List ℕ)) (unnoted : T → ℕ)
+    (first : Clients I O T) (done : List Doing) (moment : Moment) : Type 0 where
+  pub stood : Clients I O T
+  pub earlier : List Doing
+  pub later : List Doing
+  pub parted : done ≡ earlier ++ later
+  pub did : DidLines took unread said unsaid noted unnoted first stood earlier
+  pub taken : held_from stood.coming ≡ []
+  pub going : stop_among stood ≡ None
+  pub is : moment ≡ moment_of took unread said unsaid noted unnoted stood.coming.source stood.out.writer.sink stood.transcript.writer.sink
+
+-- the same as `DidLines`, where the source was asked for more at such moments alone
+abbrev pub DidLinesInTurn : {I O T : Type 0} → (I → Option (List (List ℕ))) → (I → ℕ) → (I → Option (List Moment)) → (O → Option (List ℕ)) → (O → ℕ) → (T → Option (List ℕ)) → (T → ℕ) → Clients I O T → Clients I O T → List Doing → Type 0
+DidLinesInTurn took unread moments said unsaid noted unnoted first later done = DidLines took unread said unsaid noted unnoted first later done
+    × Asked (moments first.coming.source) (moments later.coming.source) (StoodAmong took unread said unsaid noted unnoted first done)
+
+-- whatever was done before, this is done then
+abbrev pub DoesLinesInTurn : {I O T : Type 0} → (I → Option (List (List ℕ))) → (I → ℕ) → (I → Option (List Moment)) → (O → Option (List ℕ)) → (O → ℕ) → (T → Option (List ℕ)) → (T → ℕ) → Clients I O T → Clients I O T → List Doing → Type 0
+DoesLinesInTurn took unread moments said unsaid noted unnoted old new more = (first : Clients _ _ _) (done : List Doing)
+    → DidLinesInTurn took unread moments said unsaid noted unnoted first old done → DidLinesInTurn took unread moments said unsaid noted unnoted first new (done ++ more)

@@ -14,7 +14,7 @@ use Rattle.nv_live.specs.declared.incoming.Stopped.TheVariants.{Ended, Unreadabl
 use Rattle.nv_live.specs.declared.buffer.Buffer.{Buffer}
 use Rattle.nv_live.specs.declared.coming_lines.ComingLines.{ComingLines}
 use Rattle.nv_live.specs.Buffer.{held_in}
-use Rattle.nv_live.specs.Source.{Gave}
+use Rattle.nv_live.specs.Source.{Gave, Moment, Asked}
 use Rattle.nv_live.specs.Taking.{faults_by_stop}
 
 -- ---- the lines and what they say
@@ -147,3 +147,12 @@ ComesOn took faults old new then_come = (first : ComingLines _) (arrivals : List
 abbrev pub HandsOn : {I : Type 0} → (I → Option (List (List ℕ))) → (I → ℕ) → ComingLines I → ComingLines I → Type 0
 HandsOn took faults old new = (first : ComingLines _) (arrivals : List Arrival) (handed : ℕ)
     → HasCome took faults first old arrivals handed → HasCome took faults first new arrivals (handed + 1)
+
+-- the source was asked for more at most at this moment, and only where nothing was held behind the line that comes and something could come
+abbrev pub AskedOnce : {I : Type 0} → (I → Option (List Moment)) → ComingLines I → ComingLines I → Moment → Type 0
+AskedOnce moments old new moment = Asked (moments old.source) (moments new.source) (λ m. (m ≡ moment) × (held_in old.buffer ≡ []) × (old.stopped ≡ None))
+
+-- The source was asked for more only where no arrival had come since, nothing was held behind the line that comes, and something could come; the last tells how things stood then.
+abbrev pub AskedOn : {I : Type 0} → (I → Option (List (List ℕ))) → (I → ℕ) → (I → Option (List Moment)) → ComingLines I → ComingLines I → (I → Moment) → Type 0
+AskedOn took faults moments old new stood = Asked (moments old.source) (moments new.source)
+    (λ m. (mid : ComingLines _) × ComesOn took faults old mid (λ arrivals. arrivals) × (held_in mid.buffer ≡ []) × (mid.stopped ≡ None) × (m ≡ stood mid.source))

@@ -12,7 +12,8 @@ use Rattle.nv_live.specs.declared.incoming.Stopped.TheVariants.{Unwritten}
 use Rattle.nv_live.specs.declared.transcript.Transcript.{Transcript}
 use Rattle.nv_live.specs.declared.writer.Writer.{Writer}
 use Rattle.nv_live.specs.declared.live.Live.{Live}
-use Rattle.nv_live.specs.Incoming.{HasTaken}
+use Rattle.nv_live.specs.Incoming.{held_of, HasTaken}
+use Rattle.nv_live.specs.Source.{Moment, moment_of, Asked}
 use Rattle.nv_live.specs.Transcript.{notes_on}
 use Rattle.nv_live.specs.Writer.{Written, WritesOn}
 
@@ -57,6 +58,28 @@ pub record Did {I O T : Type 0} (took : I → Option (List (List ℕ))) (unread 
 abbrev pub DoesOn : {I O T : Type 0} → (I → Option (List (List ℕ))) → (I → ℕ) → (O → Option (List ℕ)) → (O → ℕ) → (T → Option (List ℕ)) → (T → ℕ) → Live I O T → Live I O T → List Doing → Type 0
 DoesOn took unread said unsaid noted unnoted old new more = (first : Live _ _ _) (done : List Doing)
     → Did took unread said unsaid noted unnoted first old done → Did took unread said unsaid noted unnoted first new (done ++ more)
+
+-- How things stood at this moment, in the midst of what was done: all that was read before was taken, what was done by then stands in the sinks, and something could come.
+pub record StoodIn {I O T : Type 0} (took : I → Option (List (List ℕ))) (unread : I → ℕ) (said : O → Option (List ℕ)) (unsaid : O → ℕ) (noted : T → Option (List ℕ)) (unnoted : T → ℕ)
+    (first : Live I O T) (done : List Doing) (moment : Moment) : Type 0 where
+  pub stood : Live I O T
+  pub earlier : List Doing
+  pub later : List Doing
+  pub parted : done ≡ earlier ++ later
+  pub did : Did took unread said unsaid noted unnoted first stood earlier
+  pub taken : held_of stood.incoming ≡ []
+  pub going : stop_in stood ≡ None
+  pub is : moment ≡ moment_of took unread said unsaid noted unnoted stood.incoming.source stood.out.sink stood.transcript.writer.sink
+
+-- the same as `Did`, where the source was asked for more at such moments alone
+abbrev pub DidInTurn : {I O T : Type 0} → (I → Option (List (List ℕ))) → (I → ℕ) → (I → Option (List Moment)) → (O → Option (List ℕ)) → (O → ℕ) → (T → Option (List ℕ)) → (T → ℕ) → Live I O T → Live I O T → List Doing → Type 0
+DidInTurn took unread moments said unsaid noted unnoted first later done = Did took unread said unsaid noted unnoted first later done
+    × Asked (moments first.incoming.source) (moments later.incoming.source) (StoodIn took unread said unsaid noted unnoted first done)
+
+-- whatever was done before, this is done then
+abbrev pub DoesInTurn : {I O T : Type 0} → (I → Option (List (List ℕ))) → (I → ℕ) → (I → Option (List Moment)) → (O → Option (List ℕ)) → (O → ℕ) → (T → Option (List ℕ)) → (T → ℕ) → Live I O T → Live I O T → List Doing → Type 0
+DoesInTurn took unread moments said unsaid noted unnoted old new more = (first : Live _ _ _) (done : List Doing)
+    → DidInTurn took unread moments said unsaid noted unnoted first old done → DidInTurn took unread moments said unsaid noted unnoted first new (done ++ more)
 
 -- the first of what was held; nothing where memory was wanted
 abbrev pub took_first : Result code.Arrival AllocError → List Doing

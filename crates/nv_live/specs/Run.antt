@@ -9,10 +9,11 @@ use Rattle.nv_live.specs.declared.run.LiveRun.{LiveRun}
 use Rattle.nv_live.specs.declared.run.LiveRun.TheVariants.{Plain, Clients}
 use Rattle.nv_live.specs.declared.streams.Streams.{Streams}
 use Rattle.nv_live.specs.declared.writer.Writer.{Writer}
-use Rattle.nv_live.specs.Clients.{clients_text, stop_among, DidLines}
+use Rattle.nv_live.specs.Clients.{clients_text, stop_among, DidLinesInTurn}
 use Rattle.nv_live.specs.ComingLines.{Come, held_from}
 use Rattle.nv_live.specs.Incoming.{held_of}
-use Rattle.nv_live.specs.Live.{plain_text, stop_in, Did}
+use Rattle.nv_live.specs.Live.{plain_text, stop_in, DidInTurn}
+use Rattle.nv_live.specs.Source.{Moment}
 use Rattle.nv_live.specs.Taking.{Took}
 use Rattle.nv_live.specs.Telling.{Told}
 
@@ -72,11 +73,11 @@ abbrev pub said_text : Bool → List Said → List ℕ
 said_text false said = plain_text said
 said_text true said = clients_text said
 
-module _ {I O T : Type 0} (took : I → Option (List (List ℕ))) (unread : I → ℕ) (said : O → Option (List ℕ)) (unsaid : O → ℕ) (noted : T → Option (List ℕ)) (unnoted : T → ℕ) where
+module _ {I O T : Type 0} (took : I → Option (List (List ℕ))) (unread : I → ℕ) (moments : I → Option (List Moment)) (said : O → Option (List ℕ)) (unsaid : O → ℕ) (noted : T → Option (List ℕ)) (unnoted : T → ℕ) where
   -- between these two this was done, in order
   abbrev pub DidRun : LiveRun I O T → LiveRun I O T → List Doing → Type 0
-  DidRun (Plain first) (Plain later) done = Did took unread said unsaid noted unnoted first later done
-  DidRun (Clients first) (Clients later) done = DidLines took unread said unsaid noted unnoted first later done
+  DidRun (Plain first) (Plain later) done = DidInTurn took unread moments said unsaid noted unnoted first later done
+  DidRun (Clients first) (Clients later) done = DidLinesInTurn took unread moments said unsaid noted unnoted first later done
   DidRun first later done = ⊥
 
   abbrev pub told_run : LiveRun I O T → Told
@@ -84,6 +85,7 @@ module _ {I O T : Type 0} (took : I → Option (List (List ℕ))) (unread : I �
     clients = false;
     read = took run.incoming.source;
     unread = unread run.incoming.source;
+    moments = moments run.incoming.source;
     held = held_of run.incoming;
     line = [];
     order = nothing_came (most_clients true);
@@ -102,6 +104,7 @@ module _ {I O T : Type 0} (took : I → Option (List (List ℕ))) (unread : I �
     clients = true;
     read = took run.coming.source;
     unread = unread run.coming.source;
+    moments = moments run.coming.source;
     held = held_from run.coming;
     line = run.coming.line.items;
     order = run.coming.order;
@@ -122,6 +125,7 @@ module _ {I O T : Type 0} (took : I → Option (List (List ℕ))) (unread : I �
     pub way : told.clients ≡ clients
     pub read : told.read ≡ took streams.input
     pub unread_is : told.unread ≡ unread streams.input
+    pub moments_are : told.moments ≡ moments streams.input
     pub held : told.held ≡ []
     pub line : told.line ≡ []
     pub order : told.order ≡ nothing_came (most_clients true)

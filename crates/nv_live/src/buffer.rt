@@ -3,8 +3,9 @@ ghost use Rattle.std.specs.Prelude.{◌≡◌, ◌≤◌, ◌<◌, ◌∷◌, []
 ghost use Rattle.nv_arrivals.specs.Pieces.{pieces};
 ghost use Rattle.nv_live.specs.Source.{count_of};
 
-use crate::{Read, Source};
+use crate::{Read, ReadBeside};
 use nv_arrivals::piece;
+use nv_outside::Sink;
 use std::alloc::{AllocError, Global};
 
 // How many bytes one read may give.
@@ -31,7 +32,7 @@ fn count_of(read: Read) -> usize
 
 impl Buffer {
     ghost use Rattle.nv_live.specs.Buffer.{held_in, Refills};
-    ghost use Rattle.nv_live.specs.Source.{faults_by_read};
+    ghost use Rattle.nv_live.specs.Source.{faults_by_read, Gave, moment_of};
 
     pub fn make(alloc: Global) -> Result<Buffer, AllocError>
         ensures { IfOk result (λ buffer. held_in buffer ≡ []) }
@@ -57,11 +58,17 @@ impl Buffer {
     }
 
     /// Reads once, in place of what was held.
-    pub fn refill<I: Source>(&mut self, source: &mut I) -> Read
+    pub fn refill<I: ReadBeside<O, T>, O: Sink, T: Sink>(
+        &mut self,
+        source: &mut I,
+        said: &O,
+        noted: &T,
+    ) -> Read
         ensures read { Refills (I.took source.old) (I.took source.new) (held_in self.new) result }
         ensures faults { I.faults source.new ≡ faults_by_read result (I.faults source.old) }
+        ensures moment { Gave (I.moments source.old) (moment_of I.took I.faults O.told O.faults T.told T.faults source.old said.now noted.now ∷ []) (I.moments source.new) }
     {
-        let read = source.read(self.bytes.as_mut_slice());
+        let read = source.read(self.bytes.as_mut_slice(), said, noted);
         self.start = 0;
         self.end = count_of(read);
         read

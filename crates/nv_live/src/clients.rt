@@ -5,7 +5,7 @@ ghost use Rattle.nv_arrivals.specs.Reading.{arrival_of};
 ghost use Rattle.nv_arrivals.specs.Doings.{handing};
 ghost use Rattle.nv_arrivals.specs.Views.{view, taking};
 ghost use Rattle.nv_live.specs.Buffer.{held_in};
-ghost use Rattle.nv_live.specs.Clients.{coming_of, lines_out_of, transcript_from, hand_overs_of, stop_among, DidLines, DoesLines};
+ghost use Rattle.nv_live.specs.Clients.{coming_of, lines_out_of, transcript_from, hand_overs_of, stop_among, DidLinesInTurn, DoesLines, DoesLinesInTurn};
 ghost use Rattle.nv_live.specs.ComingLines.{source_from, held_from, line_from, order_from, taken_from, asked_from, stop_from, is_passed, IsWhole};
 ghost use Rattle.nv_live.specs.HandOvers.{lengths_of};
 ghost use Rattle.nv_live.specs.Lines.{held_text};
@@ -22,7 +22,7 @@ use crate::coming_lines::ComingLines;
 use crate::hand_overs::HandOvers;
 use crate::said_lines::SaidLines;
 use crate::transcript::Transcript;
-use crate::{Source, Stopped};
+use crate::{ReadBeside, Stopped};
 use nv_arrivals::{Arrival, Outside, Said};
 use nv_outside::{Put, Sink, WriteFailed};
 use std::alloc::{AllocError, Global};
@@ -39,7 +39,7 @@ pub struct Clients<I, O, T> {
     hand_overs: HandOvers,
 }
 
-impl<I: Source, O: Sink + Drop, T: Sink + Drop> Clients<I, O, T> {
+impl<I: ReadBeside<O, T>, O: Sink + Drop, T: Sink + Drop> Clients<I, O, T> {
     // Nothing was read yet and nothing said. The transcript begins with this text, which plans these lengths to hand over at.
     pub(crate) fn new(
         alloc: Global,
@@ -52,7 +52,7 @@ impl<I: Source, O: Sink + Drop, T: Sink + Drop> Clients<I, O, T> {
     ) -> Clients<I, O, T>
         requires hands { IsTrue (are_hands hands.now) }
         requires empty { held_in buffer ≡ [] }
-        ensures did { DidLines I.took I.faults O.told O.faults T.told T.faults result result [] }
+        ensures did { DidLinesInTurn I.took I.faults I.moments O.told O.faults T.told T.faults result result [] }
         ensures source { source_from (coming_of result) ≡ source }
         ensures out { sink_in (writer_of (lines_out_of result)) ≡ out }
         ensures head { Puts (T.told transcript) (T.faults transcript) head.now (put_of (writer_in (transcript_from result))) (T.told (sink_in (writer_in (transcript_from result)))) (T.faults (sink_in (writer_in (transcript_from result)))) }
@@ -132,6 +132,7 @@ impl<I: Source, O: Sink + Drop, T: Sink + Drop> Clients<I, O, T> {
         requires arrival { arrival_of (line_from (coming_of self.old)) ≡ Ok (view arrival) }
         requires sound { is_arrival (view arrival) ≡ true }
         ensures took { DoesLines I.took I.faults O.told O.faults T.told T.faults self.old self.new (taking result) }
+        ensures source { source_from (coming_of self.new) ≡ source_from (coming_of self.old) }
         ensures over { result ≡ Ok None → is_some (stop_among self.new) ≡ true }
     {
         self.transcript.set(&arrival)?;
@@ -149,6 +150,7 @@ impl<I: Source, O: Sink + Drop, T: Sink + Drop> Clients<I, O, T> {
         requires says { is_passed (line_from (coming_of self.old)) ≡ false }
         requires more { taken_from (coming_of self.old) < 2 ^ 64 - 1 }
         ensures took { DoesLines I.took I.faults O.told O.faults T.told T.faults self.old self.new (taking result) }
+        ensures source { source_from (coming_of self.new) ≡ source_from (coming_of self.old) }
         ensures over { result ≡ Ok None → is_some (stop_among self.new) ≡ true }
     {
         match self.coming.read(alloc)? {
@@ -161,19 +163,19 @@ impl<I: Source, O: Sink + Drop, T: Sink + Drop> Clients<I, O, T> {
     }
 }
 
-impl<I: Source, O: Sink + Drop, T: Sink + Drop> Outside for Clients<I, O, T> {
-    ghost did = { λ first later done. DidLines I.took I.faults O.told O.faults T.told T.faults first later done };
+impl<I: ReadBeside<O, T>, O: Sink + Drop, T: Sink + Drop> Outside for Clients<I, O, T> {
+    ghost did = { λ first later done. DidLinesInTurn I.took I.faults I.moments O.told O.faults T.told T.faults first later done };
 
     ghost is_over = { λ clients. is_some (stop_among clients) ≡ true };
 
     /// Its line stands in the transcript before it is handed on.
     fn next(&mut self, alloc: Global) -> Result<Option<Arrival>, AllocError>
-        ensures took { DoesLines I.took I.faults O.told O.faults T.told T.faults self.old self.new (taking result) }
+        ensures took { DoesLinesInTurn I.took I.faults I.moments O.told O.faults T.told T.faults self.old self.new (taking result) }
         ensures ends { result ≡ Ok None → is_some (stop_among self.new) ≡ true }
         ensures stays { is_some (stop_among self.old) ≡ true → is_some (stop_among self.new) ≡ true }
         ensures still { is_some (stop_among self.old) ≡ true → (result ≡ Ok None) × (self.new ≡ self.old) }
     {
-        if self.stopped().is_some() || !self.coming.find()? {
+        if self.stopped().is_some() || !self.coming.find(self.out.sink(), self.transcript.sink())? {
             return Ok(None);
         }
         self.take_line(alloc)
@@ -185,7 +187,7 @@ impl<I: Source, O: Sink + Drop, T: Sink + Drop> Outside for Clients<I, O, T> {
 
     /// An operator's word waits while the length isn't one that the transcript, as a script, can have.
     fn hands_over(&mut self, length: usize) -> bool
-        ensures told { DoesLines I.took I.faults O.told O.faults T.told T.faults self.old self.new (handing result length) }
+        ensures told { DoesLinesInTurn I.took I.faults I.moments O.told O.faults T.told T.faults self.old self.new (handing result length) }
         ensures stays { is_some (stop_among self.old) ≡ true → is_some (stop_among self.new) ≡ true }
         ensures answer { result ≡ (asked_from (coming_of self.old) && can_plan length (lengths_of (hand_overs_of self.old))) }
         ensures waits { result ≡ false → self.new ≡ self.old }

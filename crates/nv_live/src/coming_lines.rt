@@ -7,11 +7,13 @@ ghost use Rattle.nv_arrivals.specs.Order.{most_clients, nothing_came};
 ghost use Rattle.nv_arrivals.specs.Reading.{arrival_of};
 ghost use Rattle.nv_arrivals.specs.Views.{view, result_view};
 ghost use Rattle.nv_live.specs.Buffer.{held_in};
-ghost use Rattle.nv_live.specs.ComingLines.{source_from, held_from, line_from, order_from, taken_from, asked_from, stop_from, is_plain, is_comment, is_hand, is_passed, stop_by_end, IsRefused, ComesOn, HandsOn, HasCome, IsWhole};
+ghost use Rattle.nv_live.specs.ComingLines.{source_from, held_from, line_from, order_from, taken_from, asked_from, stop_from, is_plain, is_comment, is_hand, is_passed, stop_by_end, IsRefused, ComesOn, HandsOn, HasCome, AskedOnce, AskedOn, IsWhole};
+ghost use Rattle.nv_live.specs.Source.{moment_of};
 
 use crate::buffer::Buffer;
-use crate::{Read, Source, Stopped};
+use crate::{Read, ReadBeside, Source, Stopped};
 use nv_arrivals::{Arrival, ArrivalCause, Order, read};
+use nv_outside::Sink;
 use nv_text::{is, line_number};
 use std::alloc::{AllocError, Global};
 
@@ -136,8 +138,11 @@ impl<I: Source> ComingLines<I> {
     }
 
     // Whether something is held, which is read where nothing was.
-    fn has_more(&mut self) -> bool
+    fn has_more<O: Sink, T: Sink>(&mut self, said: &O, noted: &T) -> bool
+    where
+        I: ReadBeside<O, T>,
         ensures come { ComesOn I.took I.faults self.old self.new (λ arrivals. arrivals) }
+        ensures asked { AskedOnce I.moments self.old self.new (moment_of I.took I.faults O.told O.faults T.told T.faults (source_from self.old) said.now noted.now) }
         ensures some { result ≡ true → 0 < length (held_from self.new) }
         ensures over { result ≡ false → is_some (stop_from self.new) ≡ true }
         ensures going { result ≡ true → stop_from self.new ≡ None }
@@ -149,7 +154,7 @@ impl<I: Source> ComingLines<I> {
             return false;
         }
         if self.buffer.is_empty() {
-            let read = self.buffer.refill(&mut self.source);
+            let read = self.buffer.refill(&mut self.source, said, noted);
             self.stopped = stop_by_end(read, self.taken, self.line.len());
             return self.stopped.is_none();
         }
@@ -159,6 +164,7 @@ impl<I: Source> ComingLines<I> {
     // Moves what stands before a newline to the line.
     fn gather(&mut self) -> Result<(), AllocError>
         requires { stop_from self.old ≡ None }
+        ensures source { source_from self.new ≡ source_from self.old }
         ensures come { ComesOn I.took I.faults self.old self.new (λ arrivals. arrivals) }
         ensures line { OnOk result (length (line_from self.new) + length (held_from self.new) ≡ length (line_from self.old) + length (held_from self.old)) }
         ensures whole { OnOk result (0 < length (held_from self.new) → IsWhole (held_from self.new)) }
@@ -178,20 +184,24 @@ impl<I: Source> ComingLines<I> {
         requires cause { IsRefused (line_from self.old) (held_from self.old) (order_from self.old) (taken_from self.old) cause }
         ensures come { ComesOn I.took I.faults self.old self.new (λ arrivals. arrivals) }
         ensures stopped { stop_from self.new ≡ Some (Stopped.Refused (line_number (taken_from self.old)) cause) }
+        ensures source { source_from self.new ≡ source_from self.old }
         ensures taken { taken_from self.new ≡ taken_from self.old }
     {
         self.stopped = Some(Stopped::Refused(line_number(self.taken), cause));
     }
 
     // Whether a whole line is held, which is read where none was.
-    fn has_line(&mut self) -> Result<bool, AllocError>
+    fn has_line<O: Sink, T: Sink>(&mut self, said: &O, noted: &T) -> Result<bool, AllocError>
+    where
+        I: ReadBeside<O, T>,
         ensures come { ComesOn I.took I.faults self.old self.new (λ arrivals. arrivals) }
+        ensures asked { AskedOn I.took I.faults I.moments self.old self.new (λ source. moment_of I.took I.faults O.told O.faults T.told T.faults source said.now noted.now) }
         ensures whole { result ≡ Ok true → IsWhole (held_from self.new) × (stop_from self.new ≡ None) }
         ensures over { result ≡ Ok false → is_some (stop_from self.new) ≡ true }
         ensures taken { taken_from self.new ≡ taken_from self.old }
         ensures stays { is_some (stop_from self.old) ≡ true → (result ≡ Ok false) × (self.new ≡ self.old) }
     {
-        while self.has_more() {
+        while self.has_more(said, noted) {
             self.gather()?;
             if self.line.len() >= MOST_LINE {
                 self.refuse(ArrivalCause::Long);
@@ -228,6 +238,7 @@ impl<I: Source> ComingLines<I> {
         requires passed { is_passed (line_from self.old) ≡ true }
         requires more { taken_from self.old < 2 ^ 64 - 1 }
         ensures come { ComesOn I.took I.faults self.old self.new (λ arrivals. arrivals) }
+        ensures source { source_from self.new ≡ source_from self.old }
         ensures taken { taken_from self.new ≡ taken_from self.old + 1 }
         ensures stop { stop_from self.new ≡ stop_from self.old }
     {
@@ -236,13 +247,16 @@ impl<I: Source> ComingLines<I> {
     }
 
     /// Whether a line that says something is held, which is read where none was.
-    pub fn find(&mut self) -> Result<bool, AllocError>
+    pub fn find<O: Sink, T: Sink>(&mut self, said: &O, noted: &T) -> Result<bool, AllocError>
+    where
+        I: ReadBeside<O, T>,
         ensures come { ComesOn I.took I.faults self.old self.new (λ arrivals. arrivals) }
+        ensures asked { AskedOn I.took I.faults I.moments self.old self.new (λ source. moment_of I.took I.faults O.told O.faults T.told T.faults source said.now noted.now) }
         ensures whole { result ≡ Ok true → IsWhole (held_from self.new) × (stop_from self.new ≡ None) × (is_passed (line_from self.new) ≡ false) × (taken_from self.new < 2 ^ 64 - 1) }
         ensures over { result ≡ Ok false → is_some (stop_from self.new) ≡ true }
         ensures stays { is_some (stop_from self.old) ≡ true → (result ≡ Ok false) × (self.new ≡ self.old) }
     {
-        while self.has_line()? {
+        while self.has_line(said, noted)? {
             if self.taken == usize::MAX {
                 self.refuse(ArrivalCause::Long);
                 return Ok(false);
@@ -266,6 +280,7 @@ impl<I: Source> ComingLines<I> {
     pub fn hand_over(&mut self)
         requires { asked_from self.old ≡ true }
         ensures handed { HandsOn I.took I.faults self.old self.new }
+        ensures source { source_from self.new ≡ source_from self.old }
         ensures stop { stop_from self.new ≡ stop_from self.old }
     {
         self.asked = false;
@@ -289,6 +304,7 @@ impl<I: Source> ComingLines<I> {
         requires sound { is_arrival (view arrival.now) ≡ true }
         ensures took { result ≡ Ok true → ComesOn I.took I.faults self.old self.new (λ arrivals. arrivals ++ view arrival.now ∷ []) }
         ensures refused { result ≡ Ok false → ComesOn I.took I.faults self.old self.new (λ arrivals. arrivals) × (is_some (stop_from self.new) ≡ true) }
+        ensures source { source_from self.new ≡ source_from self.old }
         ensures kept { OnErr result (self.new ≡ self.old) }
     {
         match self.order.admit(arrival)? {
@@ -307,6 +323,7 @@ impl<I: Source> ComingLines<I> {
     pub fn waits_to(&mut self, seconds: u32, nanos: u32)
         ensures took { I.took (source_from self.new) ≡ I.took (source_from self.old) }
         ensures faults { I.faults (source_from self.new) ≡ I.faults (source_from self.old) }
+        ensures moments { I.moments (source_from self.new) ≡ I.moments (source_from self.old) }
         ensures stays { self.new ≡ record self.old { source = source_from self.new } }
     {
         self.source.waits_to(seconds, nanos);

@@ -2,12 +2,14 @@
 ghost use Rattle.std.specs.Prelude.{◌≡◌, ◌<◌, ◌++◌, ◌∷◌, [], ℕ, List, Some, None, IfOk, length, drop, true, false, is_some};
 ghost use Rattle.nv_arrivals.specs.Arrivals.{Input};
 ghost use Rattle.nv_live.specs.Buffer.{held_in};
-ghost use Rattle.nv_live.specs.Incoming.{source_in, held_of, stop_of, TakesOn};
+ghost use Rattle.nv_live.specs.Incoming.{source_in, held_of, stop_of, TakesOn, ReadOnce};
+ghost use Rattle.nv_live.specs.Source.{moment_of};
 ghost use Rattle.nv_live.specs.Taking.{Took, stop_by, IsFirst};
 
 use crate::buffer::Buffer;
-use crate::{Read, Source};
+use crate::{Read, ReadBeside, Source};
 use nv_arrivals::ArrivalCause;
+use nv_outside::Sink;
 use std::alloc::{AllocError, Global};
 
 /// Why nothing more comes.
@@ -82,19 +84,25 @@ impl<I: Source> Incoming<I> {
     }
 
     // Reads once. Nothing more comes where that gives nothing.
-    fn read_more(&mut self)
+    fn read_more<O: Sink, T: Sink>(&mut self, said: &O, noted: &T)
+    where
+        I: ReadBeside<O, T>,
         requires going { stop_of self.old ≡ None }
         requires empty { held_of self.old ≡ [] }
         ensures took { TakesOn I.took I.faults self.old self.new (λ arrivals. arrivals) }
+        ensures asked { ReadOnce I.moments self.old self.new (moment_of I.took I.faults O.told O.faults T.told T.faults (source_in self.old) said.now noted.now) }
         ensures some { stop_of self.new ≡ None → 0 < length (held_of self.new) }
     {
-        let read = self.buffer.refill(&mut self.source);
+        let read = self.buffer.refill(&mut self.source, said, noted);
         self.stopped = stop_by(read);
     }
 
     /// Whether something is held, which is read where nothing was.
-    pub fn has_more(&mut self) -> bool
+    pub fn has_more<O: Sink, T: Sink>(&mut self, said: &O, noted: &T) -> bool
+    where
+        I: ReadBeside<O, T>,
         ensures took { TakesOn I.took I.faults self.old self.new (λ arrivals. arrivals) }
+        ensures asked { ReadOnce I.moments self.old self.new (moment_of I.took I.faults O.told O.faults T.told T.faults (source_in self.old) said.now noted.now) }
         ensures some { result ≡ true → 0 < length (held_of self.new) }
         ensures over { result ≡ false → is_some (stop_of self.new) ≡ true }
         ensures stays { is_some (stop_of self.old) ≡ true → (result ≡ false) × (self.new ≡ self.old) }
@@ -103,7 +111,7 @@ impl<I: Source> Incoming<I> {
             return false;
         }
         if self.buffer.is_empty() {
-            self.read_more();
+            self.read_more(said, noted);
             return self.stopped.is_none();
         }
         true
@@ -121,6 +129,7 @@ impl<I: Source> Incoming<I> {
     pub fn pass(&mut self)
         requires { 0 < length (held_of self.old) }
         ensures took { (bytes : List ℕ) → IsFirst bytes (held_of self.old) → TakesOn I.took I.faults self.old self.new (λ arrivals. arrivals ++ Input bytes ∷ []) }
+        ensures source { source_in self.new ≡ source_in self.old }
     {
         let _count = self.buffer.pass();
     }
@@ -129,6 +138,7 @@ impl<I: Source> Incoming<I> {
     pub fn waits_to(&mut self, seconds: u32, nanos: u32)
         ensures took { I.took (source_in self.new) ≡ I.took (source_in self.old) }
         ensures faults { I.faults (source_in self.new) ≡ I.faults (source_in self.old) }
+        ensures moments { I.moments (source_in self.new) ≡ I.moments (source_in self.old) }
         ensures stays { self.new ≡ record self.old { source = source_in self.new } }
     {
         self.source.waits_to(seconds, nanos);

@@ -5,12 +5,12 @@ ghost use Rattle.nv_arrivals.specs.Views.{said_view, taking};
 ghost use Rattle.nv_live.specs.Buffer.{held_in};
 ghost use Rattle.nv_live.specs.Incoming.{source_in, held_of, stop_of};
 ghost use Rattle.nv_live.specs.Lines.{held_text};
-ghost use Rattle.nv_live.specs.Live.{incoming_of, out_of, transcript_of, stop_in, Did, DoesOn, took_first, plain_bytes};
+ghost use Rattle.nv_live.specs.Live.{incoming_of, out_of, transcript_of, stop_in, DidInTurn, DoesOn, DoesInTurn, took_first, plain_bytes};
 ghost use Rattle.nv_live.specs.Transcript.{writer_in};
 ghost use Rattle.nv_outside.specs.Sink.{Puts};
 ghost use Rattle.nv_live.specs.Writer.{sink_in, put_of, WritesOn};
 
-use crate::Source;
+use crate::ReadBeside;
 use crate::buffer::Buffer;
 use crate::incoming::{Incoming, Stopped};
 use crate::transcript::Transcript;
@@ -37,7 +37,7 @@ fn plain_bytes<'a>(said: &'a Said<'_>) -> &'a [u8]
     }
 }
 
-impl<I: Source, O: Sink + Drop, T: Sink + Drop> Live<I, O, T> {
+impl<I: ReadBeside<O, T>, O: Sink + Drop, T: Sink + Drop> Live<I, O, T> {
     // Nothing was read yet and nothing said. The transcript begins with this text.
     pub(crate) fn new(
         alloc: Global,
@@ -48,7 +48,7 @@ impl<I: Source, O: Sink + Drop, T: Sink + Drop> Live<I, O, T> {
         head: &[u8],
     ) -> Live<I, O, T>
         requires { held_in buffer ≡ [] }
-        ensures did { Did I.took I.faults O.told O.faults T.told T.faults result result [] }
+        ensures did { DidInTurn I.took I.faults I.moments O.told O.faults T.told T.faults result result [] }
         ensures source { source_in (incoming_of result) ≡ source }
         ensures out { sink_in (out_of result) ≡ out }
         ensures head { Puts (T.told transcript) (T.faults transcript) head.now (put_of (writer_in (transcript_of result))) (T.told (sink_in (writer_in (transcript_of result)))) (T.faults (sink_in (writer_in (transcript_of result)))) }
@@ -128,7 +128,8 @@ impl<I: Source, O: Sink + Drop, T: Sink + Drop> Live<I, O, T> {
     // Takes the first of what is held.
     fn take_first(&mut self, alloc: Global) -> Result<Arrival, AllocError>
         requires { 0 < length (held_of (incoming_of self.old)) }
-        ensures { DoesOn I.took I.faults O.told O.faults T.told T.faults self.old self.new (took_first result) }
+        ensures took { DoesOn I.took I.faults O.told O.faults T.told T.faults self.old self.new (took_first result) }
+        ensures source { source_in (incoming_of self.new) ≡ source_in (incoming_of self.old) }
     {
         let bytes = self.incoming.first(alloc)?;
         let arrival = Arrival::Input(bytes);
@@ -138,19 +139,23 @@ impl<I: Source, O: Sink + Drop, T: Sink + Drop> Live<I, O, T> {
     }
 }
 
-impl<I: Source, O: Sink + Drop, T: Sink + Drop> Outside for Live<I, O, T> {
-    ghost did = { λ first later done. Did I.took I.faults O.told O.faults T.told T.faults first later done };
+impl<I: ReadBeside<O, T>, O: Sink + Drop, T: Sink + Drop> Outside for Live<I, O, T> {
+    ghost did = { λ first later done. DidInTurn I.took I.faults I.moments O.told O.faults T.told T.faults first later done };
 
     ghost is_over = { λ live. is_some (stop_in live) ≡ true };
 
     /// Its line stands in the transcript before it is handed on.
     fn next(&mut self, alloc: Global) -> Result<Option<Arrival>, AllocError>
-        ensures took { DoesOn I.took I.faults O.told O.faults T.told T.faults self.old self.new (taking result) }
+        ensures took { DoesInTurn I.took I.faults I.moments O.told O.faults T.told T.faults self.old self.new (taking result) }
         ensures ends { result ≡ Ok None → is_some (stop_in self.new) ≡ true }
         ensures stays { is_some (stop_in self.old) ≡ true → is_some (stop_in self.new) ≡ true }
         ensures still { is_some (stop_in self.old) ≡ true → (result ≡ Ok None) × (self.new ≡ self.old) }
     {
-        if self.stopped().is_some() || !self.incoming.has_more() {
+        if self.stopped().is_some()
+            || !self
+                .incoming
+                .has_more(self.out.sink(), self.transcript.sink())
+        {
             return Ok(None);
         }
         let arrival = self.take_first(alloc)?;

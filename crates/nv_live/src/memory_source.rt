@@ -1,7 +1,8 @@
 // A source in memory.
 ghost use Rattle.std.specs.Prelude.{◌≡◌, ◌≤◌, ◌++◌, [], Some, length, map, drop, vec_len};
 
-use crate::{Read, Source};
+use crate::{Read, ReadBeside, Source};
+use nv_outside::Sink;
 
 /// What each read gives, in order. A read after the last fails, and so does one whose room is too small.
 #[derive(Drop)]
@@ -38,13 +39,27 @@ impl MemorySource {
 
 impl Source for MemorySource {
     ghost use Rattle.nv_live.specs.MemorySource.{all_of, given_of, faults_of};
-    ghost use Rattle.nv_live.specs.Source.{Reads, faults_by_read};
+    ghost use Rattle.std.specs.Prelude.{None};
 
     ghost took = { λ s. Some (given_of s) };
 
     ghost faults = { λ s. s.faults };
 
-    fn read(&mut self, room: &mut [u8]) -> Read
+    // It keeps nothing of the sinks beside it.
+    ghost moments = { λ _. None };
+
+    fn waits_to(&mut self, _seconds: u32, _nanos: u32)
+        ensures took { Some (given_of self.new) ≡ Some (given_of self.old) }
+        ensures faults { faults_of self.new ≡ faults_of self.old }
+        ensures all { all_of self.new ≡ all_of self.old }
+    {}
+}
+
+impl<O: Sink, T: Sink> ReadBeside<O, T> for MemorySource {
+    ghost use Rattle.nv_live.specs.MemorySource.{all_of, given_of, faults_of};
+    ghost use Rattle.nv_live.specs.Source.{Reads, faults_by_read};
+
+    fn read(&mut self, room: &mut [u8], _said: &O, _noted: &T) -> Read
         ensures read { Reads (Some (given_of self.old)) (Some (given_of self.new)) room.new result }
         ensures faults { faults_of self.new ≡ faults_by_read result (faults_of self.old) }
         ensures all { all_of self.new ≡ all_of self.old }
@@ -61,10 +76,4 @@ impl Source for MemorySource {
             }
         }
     }
-
-    fn waits_to(&mut self, _seconds: u32, _nanos: u32)
-        ensures took { Some (given_of self.new) ≡ Some (given_of self.old) }
-        ensures faults { faults_of self.new ≡ faults_of self.old }
-        ensures all { all_of self.new ≡ all_of self.old }
-    {}
 }

@@ -12,7 +12,7 @@ use crate::clients::Clients;
 use crate::incoming::Stopped;
 use crate::live::Live;
 use crate::streams::Streams;
-use crate::{Source, Telling};
+use crate::{ReadBeside, Telling};
 use nv_arrivals::{Arrival, Outside, Said};
 use nv_outside::{Put, Sink};
 use std::alloc::{AllocError, Global};
@@ -24,7 +24,7 @@ pub enum LiveRun<I, O, T> {
     Clients(Clients<I, O, T>),
 }
 
-impl<I: Source, O: Sink + Drop, T: Sink + Drop> LiveRun<I, O, T> {
+impl<I: ReadBeside<O, T>, O: Sink + Drop, T: Sink + Drop> LiveRun<I, O, T> {
     /// Nothing was read yet and nothing said. The transcript begins with this text, as much of it as can be written, which plans these lengths to
     /// hand over at. Where memory is wanted the streams come back as they were.
     pub fn begin(
@@ -35,7 +35,7 @@ impl<I: Source, O: Sink + Drop, T: Sink + Drop> LiveRun<I, O, T> {
         hands: &[u32],
     ) -> Result<LiveRun<I, O, T>, Streams<I, O, T>>
         requires { IsTrue (are_hands hands.now) }
-        ensures begun { IfOk result (λ run. IsBegun I.took I.faults O.told O.faults T.told T.faults clients head.now hands.now streams (told_run I.took I.faults O.told O.faults T.told T.faults run)) }
+        ensures begun { IfOk result (λ run. IsBegun I.took I.faults I.moments O.told O.faults T.told T.faults clients head.now hands.now streams (told_run I.took I.faults I.moments O.told O.faults T.told T.faults run)) }
         ensures same { IfErr result (λ given. given ≡ streams) }
     {
         let Ok(buffer) = Buffer::make(alloc) else {
@@ -55,7 +55,7 @@ impl<I: Source, O: Sink + Drop, T: Sink + Drop> LiveRun<I, O, T> {
     ) -> LiveRun<I, O, T>
         requires hands { IsTrue (are_hands hands.now) }
         requires empty { held_in buffer ≡ [] }
-        ensures { IsBegun I.took I.faults O.told O.faults T.told T.faults clients head.now hands.now streams (told_run I.took I.faults O.told O.faults T.told T.faults result) }
+        ensures { IsBegun I.took I.faults I.moments O.told O.faults T.told T.faults clients head.now hands.now streams (told_run I.took I.faults I.moments O.told O.faults T.told T.faults result) }
     {
         let Streams {
             input,
@@ -131,8 +131,8 @@ impl<I: Source, O: Sink + Drop, T: Sink + Drop> LiveRun<I, O, T> {
     }
 }
 
-impl<I: Source, O: Sink + Drop, T: Sink + Drop> Outside for LiveRun<I, O, T> {
-    ghost did = { λ first later done. DidRun I.took I.faults O.told O.faults T.told T.faults first later done };
+impl<I: ReadBeside<O, T>, O: Sink + Drop, T: Sink + Drop> Outside for LiveRun<I, O, T> {
+    ghost did = { λ first later done. DidRun I.took I.faults I.moments O.told O.faults T.told T.faults first later done };
 
     ghost is_over = { IsOver };
 
@@ -165,12 +165,12 @@ impl<I: Source, O: Sink + Drop, T: Sink + Drop> Outside for LiveRun<I, O, T> {
     }
 }
 
-impl<I: Source, O: Sink + Drop, T: Sink + Drop> Telling for LiveRun<I, O, T> {
+impl<I: ReadBeside<O, T>, O: Sink + Drop, T: Sink + Drop> Telling for LiveRun<I, O, T> {
     ghost use Rattle.nv_live.specs.Telling.{Told as Telling, told_code};
 
     ghost Told = { Telling };
 
     ghost told_code = { told_code };
 
-    ghost told = { told_run I.took I.faults O.told O.faults T.told T.faults };
+    ghost told = { told_run I.took I.faults I.moments O.told O.faults T.told T.faults };
 }

@@ -2,7 +2,7 @@
 ghost use Rattle.std.specs.Prelude.{None};
 
 use itoa::Buffer;
-use nv_live::{Read as Got, Source, Streams};
+use nv_live::{Read as Got, ReadBeside, Source, Streams};
 use nv_outside::{CalmSink, Put, Sink, Wrote, put_pieces};
 use std::alloc::Global;
 use std::io::{Read, Stderr, Stdin, Stdout, Write};
@@ -79,20 +79,24 @@ impl Source for RealInput {
 
     ghost faults = { λ s. s.faults };
 
-    fn read(&mut self, room: &mut [u8]) -> Got {
+    ghost moments = { λ _. None };
+
+    /// A comment that can't be made or written is left out: the run goes on without it.
+    fn waits_to(&mut self, seconds: u32, nanos: u32) {
+        if let Some(line) = wait_line(self.alloc, seconds, nanos) {
+            let _wrote = self.stderr.write_all(line.written());
+        }
+    }
+}
+
+impl<O: Sink, T: Sink> ReadBeside<O, T> for RealInput {
+    fn read(&mut self, room: &mut [u8], _said: &O, _noted: &T) -> Got {
         match self.stdin.read(room) {
             Ok(count) => Got::Count(count),
             Err(_) => {
                 self.faults = self.faults.saturating_add(1);
                 Got::Failed
             }
-        }
-    }
-
-    /// A comment that can't be made or written is left out: the run goes on without it.
-    fn waits_to(&mut self, seconds: u32, nanos: u32) {
-        if let Some(line) = wait_line(self.alloc, seconds, nanos) {
-            let _wrote = self.stderr.write_all(line.written());
         }
     }
 }

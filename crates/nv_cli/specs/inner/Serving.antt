@@ -8,6 +8,7 @@ use Rattle.nv_command.specs.Words.{Limits}
 use Rattle.nv_kernel.specs.Logged.{Logged}
 use Rattle.nv_live.specs.Lines.{held_text}
 use Rattle.nv_live.specs.Run.{input_of, output_of, notes_of, line_of, held_by, stop_of_run, told_run, IsBegun}
+use Rattle.nv_live.specs.Source.{Moment}
 use Rattle.nv_live.specs.Telling.{Told}
 use Rattle.nv_live.specs.Writer.{sink_in, put_of, WritesOn}
 use Rattle.nv_live.specs.declared.run.LiveRun.{LiveRun}
@@ -41,22 +42,23 @@ pub record IsReadyToServe (prepared : LivePrepared) : Type 0 where
   pub few : length prepared.versions.items ≤ 8
   pub planned : IsPlanned (setup_of prepared.script) prepared.script.hands.items
 
-module _ {I O T : Type 0} (took : I → Option (List (List ℕ))) (unread : I → ℕ) (said : O → Option (List ℕ)) (unsaid : O → ℕ) (noted : T → Option (List ℕ)) (unnoted : T → ℕ) where
+module _ {I O T : Type 0} (took : I → Option (List (List ℕ))) (unread : I → ℕ) (moments : I → Option (List Moment)) (said : O → Option (List ℕ)) (unsaid : O → ℕ) (noted : T → Option (List ℕ)) (unnoted : T → ℕ) where
   -- what an outside of a live run tells of itself
   abbrev pub told : LiveRun I O T → Told
-  told run = told_run took unread said unsaid noted unnoted run
+  told run = told_run took unread moments said unsaid noted unnoted run
 
   -- a kernel that has served nothing, over these streams, of which the transcript has its head
   pub record IsBegunOver (clients : Bool) (setup : Setup) (head : List ℕ) (streams : Held I O T) (k : Logged (Coming (LiveRun I O T))) : Type 0 where
     pub empty : k.log ≡ []
     pub setup_is : k.setup ≡ setup
-    pub begun : IsBegun took unread said unsaid noted unnoted clients head setup.hands streams (told k.answers.begun)
+    pub begun : IsBegun took unread moments said unsaid noted unnoted clients head setup.hands streams (told k.answers.begun)
     pub still : k.answers.outside ≡ k.answers.begun
 
   -- Streams that nobody was served over: they have nothing more than these, but that the transcript may have this head.
   pub record IsUnused (head : List ℕ) (streams given : Held I O T) : Type 0 where
     pub read : took given.input ≡ took streams.input
     pub unread_is : unread given.input ≡ unread streams.input
+    pub moments_are : moments given.input ≡ moments streams.input
     pub said_is : said given.output ≡ said streams.output
     pub unsaid_is : unsaid given.output ≡ unsaid streams.output
     pub text : List ℕ

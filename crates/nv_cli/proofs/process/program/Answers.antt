@@ -9,8 +9,8 @@ use Rattle.nv_cli.proofs.process.program.Goals as goal
 pub returns : goal.returns
 returns g c =
     let source = source_of g.F.Files.holds g.F.Files.faults g.F.Files.taken c.args.files.now c.answer-status.new.files in
-    let streams = streams_of g.I.Source.took g.I.Source.faults g.O.Sink.told g.O.Sink.faults g.T.Sink.told g.T.Sink.faults c.args.streams in
-    let left = left_of g.I.Source.took g.I.Source.faults g.O.Sink.told g.O.Sink.faults g.T.Sink.told g.T.Sink.faults c.answer-status.result.1 in
+    let streams = streams_of g.I.Source.took g.I.Source.faults g.I.Source.moments g.O.Sink.told g.O.Sink.faults g.T.Sink.told g.T.Sink.faults c.args.streams in
+    let left = left_of g.I.Source.took g.I.Source.faults g.I.Source.moments g.O.Sink.told g.O.Sink.faults g.T.Sink.told g.T.Sink.faults c.answer-status.result.1 in
     let told = g.S.Sink.told in
     let faults = g.S.Sink.faults in
     let made = c.make-sink.result in

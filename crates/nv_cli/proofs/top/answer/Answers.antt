@@ -60,8 +60,8 @@ refused_left fault words source streams refused still before faults status told 
 pub returns-in-Err : goal.returns-in-Err
 returns-in-Err g c =
     refused_left c.in-Err.fault (texts c.args.words.now) (source_of g.F.Files.holds g.F.Files.faults g.F.Files.taken c.args.files.now c.args.files.now)
-    (streams_of g.I.Source.took g.I.Source.faults g.O.Sink.told g.O.Sink.faults g.T.Sink.told g.T.Sink.faults c.args.streams) c.in-Err.ensures.fault (refl, refl) _ _ _ _ _ _ _
-    c.left_alone-in-Err.ensures.0 (ap (left_of g.I.Source.took g.I.Source.faults g.O.Sink.told g.O.Sink.faults g.T.Sink.told g.T.Sink.faults) c.left_alone-in-Err.ensures.1) c.refuse_words.ensures
+    (streams_of g.I.Source.took g.I.Source.faults g.I.Source.moments g.O.Sink.told g.O.Sink.faults g.T.Sink.told g.T.Sink.faults c.args.streams) c.in-Err.ensures.fault (refl, refl) _ _ _ _ _ _ _
+    c.left_alone-in-Err.ensures.0 (ap (left_of g.I.Source.took g.I.Source.faults g.I.Source.moments g.O.Sink.told g.O.Sink.faults g.T.Sink.told g.T.Sink.faults) c.left_alone-in-Err.ensures.1) c.refuse_words.ensures
 
 pub returns-in-Ok-Serve : goal.returns-in-Ok-Serve
 returns-in-Ok-Serve g c =
@@ -71,7 +71,7 @@ pub returns-in-Ok-Run : goal.returns-in-Ok-Run
 returns-in-Ok-Run g c =
     let asked = c.in-Ok-Run.ensures.command ∙ ap (λ (x : Asked). Some (command_view x)) c.in-Ok-Run.field-0-is in
     untouched (texts c.args.words.now) _ _ _ _ _ _ _ _ _ (λ service e. let f = sym asked ∙ e in cc) c.left_alone.ensures.0
-    (ap (left_of g.I.Source.took g.I.Source.faults g.O.Sink.told g.O.Sink.faults g.T.Sink.told g.T.Sink.faults) c.left_alone.ensures.1) (c.do_run.ensures (texts c.args.words.now) asked)
+    (ap (left_of g.I.Source.took g.I.Source.faults g.I.Source.moments g.O.Sink.told g.O.Sink.faults g.T.Sink.told g.T.Sink.faults) c.left_alone.ensures.1) (c.do_run.ensures (texts c.args.words.now) asked)
 
 pub do_generate-requires-clause-number : goal.do_generate-requires-clause-number
 do_generate-requires-clause-number g c κs within =
@@ -81,6 +81,6 @@ pub returns-in-Ok-Generate : goal.returns-in-Ok-Generate
 returns-in-Ok-Generate g c =
     let asked = c.in-Ok-Generate.ensures.command ∙ ap (λ (x : Asked). Some (command_view x)) c.in-Ok-Generate.field-0-is in
     untouched (texts c.args.words.now) (source_of g.F.Files.holds g.F.Files.faults g.F.Files.taken c.args.files.now c.args.files.now) _ _ _ _ _ _ _ _ (λ service e. let f = sym asked ∙ e in cc)
-    c.left_alone-in-Ok-Generate.ensures.0 (ap (left_of g.I.Source.took g.I.Source.faults g.O.Sink.told g.O.Sink.faults g.T.Sink.told g.T.Sink.faults) c.left_alone-in-Ok-Generate.ensures.1)
+    c.left_alone-in-Ok-Generate.ensures.0 (ap (left_of g.I.Source.took g.I.Source.faults g.I.Source.moments g.O.Sink.told g.O.Sink.faults g.T.Sink.told g.T.Sink.faults) c.left_alone-in-Ok-Generate.ensures.1)
     (made_answers (texts c.args.words.now) (source_of g.F.Files.holds g.F.Files.faults g.F.Files.taken c.args.files.now c.args.files.now) c.in-Ok-Generate.number
     asked refl refl _ _ _ _ _ c.do_generate.ensures)
