@@ -27,7 +27,7 @@ begun_send : (X : RattleType) → IsSend (Snapshot.the_row X)
 begun_send X = search crosses
 
 guests_inside : (X : RattleType) (o : Ghosts X.Denot) → IsSend X → IsSend (GuestsInside.the_row X o)
-guests_inside X o x = recorded_send _ _ _ (GuestsInside.the_type X o).to_one (struct_send (shape (GuestsInside.the_type X o)) (search sendable, (search (sendable, side_send) depth 20, (begun_send X, (x, (search (sendable, past_send, arrival_send) depth 20, (search sendable, (search (sendable, intake_send) depth 20, (search sendable, (search sendable, (search sendable, tt)))))))))))
+guests_inside X o x = recorded_send _ _ _ (GuestsInside.the_type X o).to_one (struct_send (shape (GuestsInside.the_type X o)) (search sendable, (search (sendable, side_send) depth 20, (begun_send X, (x, (search (sendable, past_send, arrival_send) depth 20, (search sendable, (search (sendable, intake_send) depth 20, (search sendable, (search sendable, tt))))))))))
 
 pub guests_send : (X : RattleType) (o : Ghosts X.Denot) → IsSend X → IsSend (Guests.the_row X o)
 guests_send X o x = view_send _ _ _ _ _ (guests_inside X o x)

@@ -34,7 +34,7 @@ use Rattle.nv_arriving.proofs.Told.{told_heard, told_served, told_asked}
 
 module _ {O : Type 0} (did : O → O → List Doing → Type 0) (is_over : O → Type 0) where
   -- before the first call
-  pub stands_first : (setup : Setup) (came : List Arrival) (g : Coming O) → g.stage ≡ first_stage setup came → g.came ≡ came → (g.over ≡ true → is_over g.outside) → Tells did g.begun g.outside setup g.came [] g.late → StandsAt did is_over g setup []
+  pub stands_first : (setup : Setup) (came : List Arrival) (g : Coming O) → g.stage ≡ first_stage setup came → g.came ≡ came → (g.over ≡ true → is_over g.outside) → Tells did g.begun g.outside setup g.came [] → StandsAt did is_over g setup []
   stands_first setup came g e c ended told = record {
     stage = e ∙ ap (first_stage setup) (sym c);
     satisfied = λ _. tt;
@@ -61,21 +61,21 @@ module _ {O : Type 0} (did : O → O → List Doing → Type 0) (is_over : O →
 
   -- ---- where more comes
 
-  module _ (begun old new : O) (before now : List Arrival) (found found' : Intake) (s : Standing) (used : ℕ) (over over' late keeps : Bool) (room room' : Room)
+  module _ (begun old new : O) (before now : List Arrival) (found found' : Intake) (s : Standing) (used : ℕ) (over over' keeps : Bool) (room room' : Room)
       (few : used ≤ length before) (was : over' ≡ false → over ≡ false) (same : over ≡ true → now ≡ before) (grew : Grew before now) (adds : Adds did old new (map Takes (after before now)))
       (ended : (over ≡ true → is_over old) → over' ≡ true → is_over new) where
     abbrev earlier : Coming O
-    earlier = record { stage = record { here = s; rest = drop used before }; begun = begun; outside = old; came = before; intake = found; late = late; over = over; keeps = keeps; room = room }
+    earlier = record { stage = record { here = s; rest = drop used before }; begun = begun; outside = old; came = before; intake = found; over = over; keeps = keeps; room = room }
 
     abbrev later : Coming O
-    later = record { stage = record { here = s; rest = drop used now }; begun = begun; outside = new; came = now; intake = found'; late = late; over = over'; keeps = keeps; room = room' }
+    later = record { stage = record { here = s; rest = drop used now }; begun = begun; outside = new; came = now; intake = found'; over = over'; keeps = keeps; room = room' }
 
     pub stands_heard : (setup : Setup) (log : List Entry) → StandsAt did is_over earlier setup log → StandsAt did is_over later setup log
     stands_heard setup log k = record {
       stage = staged setup before now log log s used over refl few k.stage k.satisfied same grew;
       satisfied = satisfied setup before now log log over over' refl k.satisfied was grew;
       ended = ended k.ended;
-      told = told_heard did begun setup old new before now log log over late refl k.satisfied same grew adds k.told;
+      told = told_heard did begun setup old new before now log log over refl k.satisfied same grew adds k.told;
       live = k.live;
       crew = k.crew;
     }
@@ -91,7 +91,7 @@ module _ {O : Type 0} (did : O → O → List Doing → Type 0) (is_over : O →
     stage = k.stage;
     satisfied = k.satisfied;
     ended = λ o. stays (k.ended o);
-    told = told_asked did g.begun setup g.came log g.outside new g.late answer n adds k.told;
+    told = told_asked did g.begun setup g.came log g.outside new answer n adds k.told;
     live = k.live;
     crew = k.crew;
   }
@@ -103,8 +103,7 @@ module _ {O : Type 0} (did : O → O → List Doing → Type 0) (is_over : O →
       (answer : answer_next g.stage c ≡ record { state = h.stage.here; ret = ret; payload = payload }) (next : h.stage ≡ (serve_next g.stage c).state)
       (waits : g.over ≡ false → in_vain (wait_of g.stage.here c) g.stage.rest ≡ false)
       (says : Adds did g.outside h.outside (map Says (said (ready_for g.stage c).state c ret h.stage.here.state)))
-      (stays : is_over g.outside → is_over h.outside)
-      (still : h.late ≡ false → g.late ≡ false) (none : h.late ≡ false → h.stage.rest ≡ []) where
+      (stays : is_over g.outside → is_over h.outside) where
     module _ (setup : Setup) (log : List Entry) (here : StandsAt did is_over g setup log) where
       abbrev e : Entry
       e = served (start_of_arrivals setup g.came) log c
@@ -152,11 +151,8 @@ module _ {O : Type 0} (did : O → O → List Doing → Type 0) (is_over : O →
       says_then = subst (λ (z : List Said). Adds did g.outside h.outside (map Says z))
           (λ j. said (ready_for (here.stage j) c).state c (sym answer_then j).ret (sym answer_then j).state.state) says
 
-      none_then : h.late ≡ false → drop (taken stage c) stage.rest ≡ []
-      none_then o = sym (ap (λ (z : Stage). z.rest) (next ∙ ap (λ (z : Stage). (serve_next z c).state) here.stage)) ∙ none o
-
-      told : Tells did g.begun h.outside setup g.came (log ++ e ∷ []) h.late
-      told = told_served did g.begun setup g.came log e g.outside h.outside (log ++ e ∷ []) g.late h.late refl still none_then says_then here.told
+      told : Tells did g.begun h.outside setup g.came (log ++ e ∷ [])
+      told = told_served did g.begun setup g.came log e g.outside h.outside (log ++ e ∷ []) refl says_then here.told
 
       next_at : StandsAt did is_over h setup (log ++ e ∷ [])
       next_at = record {
@@ -164,8 +160,8 @@ module _ {O : Type 0} (did : O → O → List Doing → Type 0) (is_over : O →
         satisfied = λ o. subst (λ z. Satisfied (first_stage setup z) (calls_of (log ++ e ∷ []))) (sym came)
             (satisfied_served (first_stage setup g.came) log e g.over here.satisfied (λ q. subst (λ (z : Stage). in_vain (wait_of z.here c) z.rest ≡ false) here.stage (waits q)) (sym over ∙ o));
         ended = λ o. stays (here.ended (sym over ∙ o));
-        told = subst (λ (z : List Arrival). Tells did h.begun h.outside setup z (log ++ e ∷ []) h.late) (sym came)
-            (subst (λ (z : O). Tells did z h.outside setup g.came (log ++ e ∷ []) h.late) (sym begun) told);
+        told = subst (λ (z : List Arrival). Tells did h.begun h.outside setup z (log ++ e ∷ [])) (sym came)
+            (subst (λ (z : O). Tells did z h.outside setup g.came (log ++ e ∷ [])) (sym begun) told);
         live = live;
         crew = subst (λ (r : Answer Standing). IsCrew r.state.state.own.crew) answer step.is;
       }

@@ -1,19 +1,18 @@
 -- What an outside tells of what was done, at the beginning, where more is heard and where a call is served.
-use Rattle.std.proofs.Common.{◌≡◌, ◌∙◌, sym, ap, subst, refl, ℕ, Bool, true, false, List, [], ◌∷◌, ◌++◌, take, drop, length, map, append_assoc, append-nil, take-append-drop}
+use Rattle.std.proofs.Common.{◌≡◌, ◌≤◌, ◌+◌, ◌∙◌, sym, ap, subst, refl, ℕ, Bool, true, false, nat_le, List, [], ◌∷◌, ◌++◌, take, length, length-append, map, append-nil, arith}
+use Rattle.std.proofs.lemmas.Bool.{and_parts, and_from}
+use Rattle.std.proofs.lemmas.Bool.Decides.{nat_tests}
 use Rattle.nv_calls.specs.Answer.{state_after}
 use Rattle.nv_calls.specs.Calls.{Entry}
 use Rattle.nv_calls.specs.Logs.{calls_of}
 use Rattle.nv_script.specs.Scripts.{Setup}
-use Rattle.nv_kernel.proofs.Going.{log_more}
 use Rattle.nv_arrivals.specs.Arrivals.{Arrival}
-use Rattle.nv_arrivals.specs.Doings.{Said, Doing, Takes, Says, Hands, takings, sayings, exchanges, handing}
+use Rattle.nv_arrivals.specs.Doings.{Said, Doing, Takes, Says, Hands, takings, sayings, handing}
 use Rattle.nv_arriving.specs.Arriving.{Stage, taken, ready_for, answer_next, serve_next, first_stage, Satisfied}
 use Rattle.nv_arriving.specs.Doings.{said, doings_of, doings}
 use Rattle.nv_arriving.specs.Kernel.{after, Grew}
-use Rattle.nv_arriving.specs.Telling.{Adds, IsTold, Tells}
-use Rattle.nv_arriving.proofs.Coming.{after_more}
-use Rattle.nv_arriving.proofs.Doings.{doings_front, doings_more, takings_both, takings_all, takings_none}
-use Rattle.nv_arriving.proofs.Taken.{drop_all}
+use Rattle.nv_arriving.specs.Telling.{Adds, taken_before, are_at_most, IsTold, Tells}
+use Rattle.nv_arriving.proofs.Doings.{doings_front, doings_more, takings_both, takings_all, takings_none, doings_taken}
 
 -- ---- what was said
 
@@ -31,27 +30,7 @@ pub sayings_none : (xs : List Arrival) → sayings (map Takes xs) ≡ []
 sayings_none [] = refl
 sayings_none (a ∷ xs) = sayings_none xs
 
-takes_both : (xs ys : List Arrival) → map Takes (xs ++ ys) ≡ map Takes xs ++ map Takes ys
-takes_both [] ys = refl
-takes_both (a ∷ xs) ys = ap (λ (z : List Doing). Takes a ∷ z) (takes_both xs ys)
-
--- ---- all but where the leader gave up the lead
-
-exchanges_both : (xs ys : List Doing) → exchanges (xs ++ ys) ≡ exchanges xs ++ exchanges ys
-exchanges_both [] ys = refl
-exchanges_both (Takes a ∷ xs) ys = ap (λ (z : List Doing). Takes a ∷ z) (exchanges_both xs ys)
-exchanges_both (Says s ∷ xs) ys = ap (λ (z : List Doing). Says s ∷ z) (exchanges_both xs ys)
-exchanges_both (Hands n ∷ xs) ys = exchanges_both xs ys
-
-exchanges_taken : (xs : List Arrival) → exchanges (map Takes xs) ≡ map Takes xs
-exchanges_taken [] = refl
-exchanges_taken (a ∷ xs) = ap (λ (z : List Doing). Takes a ∷ z) (exchanges_taken xs)
-
-exchanges_said : (xs : List Said) → exchanges (map Says xs) ≡ map Says xs
-exchanges_said [] = refl
-exchanges_said (s ∷ xs) = ap (λ (z : List Doing). Says s ∷ z) (exchanges_said xs)
-
--- an answer whether it hands over is no exchange
+-- an answer whether it hands over is neither
 module _ (n : ℕ) where
   takings_handing : (b : Bool) → takings (handing b n) ≡ []
   takings_handing true = refl
@@ -61,9 +40,39 @@ module _ (n : ℕ) where
   sayings_handing true = refl
   sayings_handing false = refl
 
-  exchanges_handing : (b : Bool) → exchanges (handing b n) ≡ []
-  exchanges_handing true = refl
-  exchanges_handing false = refl
+  before_handing : (k : ℕ) (b : Bool) → taken_before k (handing b n) ≡ []
+  before_handing k true = refl
+  before_handing k false = refl
+
+-- ---- how many were taken before each was said
+
+before_both : (n : ℕ) (xs ys : List Doing) → taken_before n (xs ++ ys) ≡ taken_before n xs ++ taken_before (n + length (takings xs)) ys
+before_both n [] ys = let same : n ≡ n + 0 = omega arith in ap (λ k. taken_before k ys) same
+before_both n (Takes a ∷ xs) ys =
+    let same : n + 1 + length (takings xs) ≡ n + length (a ∷ takings xs) = omega arith in
+    before_both (n + 1) xs ys ∙ ap (λ k. taken_before (n + 1) xs ++ taken_before k ys) same
+before_both n (Says s ∷ xs) ys = ap (λ (z : List ℕ). n ∷ z) (before_both n xs ys)
+before_both n (Hands m ∷ xs) ys = before_both n xs ys
+
+before_takes : (n : ℕ) (xs : List Arrival) → taken_before n (map Takes xs) ≡ []
+before_takes n [] = refl
+before_takes n (a ∷ xs) = before_takes (n + 1) xs
+
+before_says : (n : ℕ) (xs : List Said) → taken_before n (map Says xs) ≡ map (λ _. n) xs
+before_says n [] = refl
+before_says n (s ∷ xs) = ap (λ (z : List ℕ). n ∷ z) (before_says n xs)
+
+at_most_both : (a b c d : List ℕ) → are_at_most a b ≡ true → are_at_most c d ≡ true → are_at_most (a ++ c) (b ++ d) ≡ true
+at_most_both [] [] c d p q = q
+at_most_both [] (n ∷ ns) c d p q = cc
+at_most_both (m ∷ ms) [] c d p q = cc
+at_most_both (m ∷ ms) (n ∷ ns) c d p q =
+    let parts = and_parts (nat_le m n) (are_at_most ms ns) p in
+    and_from (nat_le m n) (are_at_most (ms ++ c) (ns ++ d)) parts.0 (at_most_both ms ns c d parts.1 q)
+
+at_most_all : (m n : ℕ) (xs : List Said) → nat_le m n ≡ true → are_at_most (map (λ _. m) xs) (map (λ _. n) xs) ≡ true
+at_most_all m n [] le = refl
+at_most_all m n (s ∷ xs) le = and_from (nat_le m n) (are_at_most (map (λ _. m) xs) (map (λ _. n) xs)) le (at_most_all m n xs le)
 
 -- ---- where more is heard
 
@@ -71,48 +80,34 @@ module _ (setup : Setup) (before now : List Arrival) (log : List Entry) where
   abbrev more : List Arrival
   more = after before now
 
-  none_more : now ≡ before → more ≡ []
-  none_more e = ap (drop (length before)) (e ∙ sym (append-nil before)) ∙ drop_all before []
-
   doings_heard : (over : Bool) → (over ≡ false → Satisfied (first_stage setup before) (calls_of log)) → (over ≡ true → now ≡ before) → Grew before now
       → doings setup now log ≡ doings setup before log
   doings_heard true h same g = ap (λ z. doings setup z log) (same refl)
   doings_heard false h same g = ap (λ z. doings setup z log) g ∙ doings_more setup before more log (h refl)
 
-  rest_heard : (over : Bool) → (over ≡ false → Satisfied (first_stage setup before) (calls_of log)) → (over ≡ true → now ≡ before) → Grew before now
-      → (state_after serve_next (first_stage setup now) (calls_of log)).rest ≡ (state_after serve_next (first_stage setup before) (calls_of log)).rest ++ more
-  rest_heard true h same g =
-      let rest : List Arrival = (state_after serve_next (first_stage setup before) (calls_of log)).rest in
-      ap (λ z. (state_after serve_next (first_stage setup z) (calls_of log)).rest) (same refl) ∙ (sym (append-nil rest) ∙ ap (λ z. rest ++ z) (sym (none_more (same refl))))
-  rest_heard false h same g =
-      ap (λ z. (state_after serve_next (first_stage setup z) (calls_of log)).rest) g ∙ ap (λ (z : Stage). z.rest) (after_more (first_stage setup before) more (calls_of log) (h refl))
-
 module _ {O : Type 0} (did : O → O → List Doing → Type 0) (begun : O) (setup : Setup) where
-  pub told_first : Tells did begun begun setup [] [] false
+  pub told_first : Tells did begun begun setup [] []
   unfolding doings
-  told_first h = ([], record { is = h; took = refl; said = refl; in_order = λ _. refl })
+  told_first h = ([], record { is = h; took = refl; said = refl; no_sooner = refl })
 
-  pub told_heard : (old new : O) (before now : List Arrival) (log log' : List Entry) (over late : Bool) → log' ≡ log
+  pub told_heard : (old new : O) (before now : List Arrival) (log log' : List Entry) (over : Bool) → log' ≡ log
       → (over ≡ false → Satisfied (first_stage setup before) (calls_of log)) → (over ≡ true → now ≡ before) → Grew before now
-      → Adds did old new (map Takes (after before now)) → Tells did begun old setup before log late → Tells did begun new setup now log' late
-  told_heard old new before now log log' over late e h same g adds t first =
+      → Adds did old new (map Takes (after before now)) → Tells did begun old setup before log → Tells did begun new setup now log'
+  told_heard old new before now log log' over e h same g adds t first =
       let more : List Arrival = after before now in
       let done : List Doing = (t first).0 in
-      let was : IsTold did begun old setup before log late done = (t first).1 in
+      let was : IsTold did begun old setup before log done = (t first).1 in
       let d = doings_heard setup before now log over h same g in
-      let r = rest_heard setup before now log over h same g in
-      let rest : List Arrival = (state_after serve_next (first_stage setup before) (calls_of log)).rest in
-      let is : IsTold did begun new setup now log late (done ++ map Takes more) = record {
+      let is : IsTold did begun new setup now log (done ++ map Takes more) = record {
         is = adds begun done was.is;
         took = takings_both done (map Takes more) ∙ ((λ i. was.took i ++ takings_all more i) ∙ sym g);
         said = sayings_both done (map Takes more) ∙ (ap (λ (z : List Said). sayings done ++ z) (sayings_none more) ∙ (append-nil (sayings done) ∙ (was.said ∙ ap sayings (sym d))));
-        in_order = λ o.
-            exchanges_both done (map Takes more) ∙ (λ i. was.in_order o i ++ exchanges_taken more i)
-            ∙ (append_assoc (doings setup before log) (map Takes rest) (map Takes more)
-            ∙ (ap (λ (z : List Doing). doings setup before log ++ z) (sym (takes_both rest more))
-            ∙ (λ i. sym d i ++ map Takes (sym r i))));
+        no_sooner =
+            let counts : taken_before 0 (done ++ map Takes more) ≡ taken_before 0 done =
+            before_both 0 done (map Takes more) ∙ ap (λ (z : List ℕ). taken_before 0 done ++ z) (before_takes (0 + length (takings done)) more) ∙ append-nil (taken_before 0 done) in
+            ap (λ (z : List Doing). are_at_most (taken_before 0 z) (taken_before 0 (done ++ map Takes more))) d ∙ ap (λ (z : List ℕ). are_at_most (taken_before 0 (doings setup before log)) z) counts ∙ was.no_sooner;
       } in
-      (done ++ map Takes more, subst (λ (z : List Entry). IsTold did begun new setup now z late (done ++ map Takes more)) (sym e) is)
+      (done ++ map Takes more, subst (λ (z : List Entry). IsTold did begun new setup now z (done ++ map Takes more)) (sym e) is)
 
 -- ---- where a call is served
 
@@ -129,47 +124,66 @@ module _ {O : Type 0} (did : O → O → List Doing → Type 0) (begun : O) (set
   sayings_last : sayings (doings_of stage e.call) ≡ says
   sayings_last = sayings_both (map Takes (take (taken stage e.call) stage.rest)) (map Says says) ∙ (λ i. sayings_none (take (taken stage e.call) stage.rest) i ++ sayings_all says i)
 
-  -- nothing is left
-  in_order_last : (done : List Doing) → drop (taken stage e.call) stage.rest ≡ [] → exchanges done ≡ doings setup came log ++ map Takes stage.rest
-      → exchanges (done ++ map Says says) ≡ doings setup came (log ++ e ∷ []) ++ map Takes (state_after serve_next (first_stage setup came) (calls_of (log ++ e ∷ []))).rest
-  in_order_last done none is =
+  -- what the log's calls take in, this one's as well, is no more than has come
+  taken_last : length (takings (doings setup came log)) + length (take (taken stage e.call) stage.rest) ≤ length came
+  taken_last =
+      let all = ap length (doings_taken setup came (log ++ e ∷ [])) in
       let front : List Arrival = take (taken stage e.call) stage.rest in
-      let all : front ≡ stage.rest = sym (append-nil front) ∙ (ap (λ (z : List Arrival). front ++ z) (sym none) ∙ take-append-drop (taken stage e.call) stage.rest) in
-      let left : (state_after serve_next (first_stage setup came) (calls_of (log ++ e ∷ []))).rest ≡ [] = ap (λ (z : Stage). z.rest) (log_more serve_next (first_stage setup came) log e) ∙ none in
-      exchanges_both done (map Says says) ∙ (λ i. exchanges done ++ exchanges_said says i) ∙ ap (λ (z : List Doing). z ++ map Says says) (is ∙ ap (λ (z : List Arrival). doings setup came log ++ map Takes z) (sym all))
-      ∙ (append_assoc (doings setup came log) (map Takes front) (map Says says)
-      ∙ (sym doings_last
-      ∙ (sym (append-nil (doings setup came (log ++ e ∷ [])))
-      ∙ ap (λ (z : List Arrival). doings setup came (log ++ e ∷ []) ++ map Takes z) (sym left))))
+      let last : takings (doings setup came (log ++ e ∷ [])) ≡ takings (doings setup came log) ++ front =
+      ap takings doings_last ∙ takings_both (doings setup came log) (doings_of stage e.call) ∙ ap (λ (z : List Arrival). takings (doings setup came log) ++ z)
+      (takings_both (map Takes front) (map Says says) ∙ (λ i. takings_all front i ++ takings_none says i) ∙ append-nil front) in
+      let rest : List Arrival = (state_after serve_next (first_stage setup came) (calls_of (log ++ e ∷ []))).rest in
+      let whole : length (takings (doings setup came log) ++ front) + length rest ≡ length came =
+      sym (length-append (takings (doings setup came log) ++ front) rest) ∙ ap (λ (z : List Arrival). length (z ++ rest)) (sym last) ∙ all in
+      omega (arith, whole, length-append (takings (doings setup came log)) front)
 
-  pub told_served : (old new : O) (log' : List Entry) (late late' : Bool) → log' ≡ log ++ e ∷ [] → (late' ≡ false → late ≡ false) → (late' ≡ false → drop (taken stage e.call) stage.rest ≡ [])
-      → Adds did old new (map Says says) → Tells did begun old setup came log late → Tells did begun new setup came log' late'
-  told_served old new log' late late' h l none adds t first =
+  -- what this call says comes behind what it takes in
+  no_sooner_last : (done : List Doing) → takings done ≡ came → are_at_most (taken_before 0 (doings setup came log)) (taken_before 0 done) ≡ true
+      → are_at_most (taken_before 0 (doings setup came (log ++ e ∷ []))) (taken_before 0 (done ++ map Says says)) ≡ true
+  no_sooner_last done took is =
+      let front : List Arrival = take (taken stage e.call) stage.rest in
+      let was : ℕ = 0 + length (takings (doings setup came log)) in
+      let m : ℕ = was + length (takings (map Takes front)) in
+      let n : ℕ = 0 + length (takings done) in
+      let below : m ≤ n = omega (arith, taken_last, ap length took, ap length (takings_all front)) in
+      let le : nat_le m n ≡ true = grind (arith, nat_tests) in
+      let old : taken_before 0 (doings setup came (log ++ e ∷ [])) ≡ taken_before 0 (doings setup came log) ++ map (λ _. m) says =
+      ap (taken_before 0) doings_last ∙ before_both 0 (doings setup came log) (doings_of stage e.call) ∙ ap (λ (z : List ℕ). taken_before 0 (doings setup came log) ++ z)
+      (before_both was (map Takes front) (map Says says) ∙ (λ i. before_takes was front i ++ before_says m says i)) in
+      let new : taken_before 0 (done ++ map Says says) ≡ taken_before 0 done ++ map (λ _. n) says =
+      before_both 0 done (map Says says) ∙ ap (λ (z : List ℕ). taken_before 0 done ++ z) (before_says n says) in
+      (λ i. are_at_most (old i) (new i)) ∙ at_most_both (taken_before 0 (doings setup came log)) (taken_before 0 done) (map (λ _. m) says) (map (λ _. n) says) is (at_most_all m n says le)
+
+  pub told_served : (old new : O) (log' : List Entry) → log' ≡ log ++ e ∷ [] → Adds did old new (map Says says) → Tells did begun old setup came log → Tells did begun new setup came log'
+  told_served old new log' h adds t first =
       let done : List Doing = (t first).0 in
-      let was : IsTold did begun old setup came log late done = (t first).1 in
-      let is : IsTold did begun new setup came (log ++ e ∷ []) late' (done ++ map Says says) = record {
+      let was : IsTold did begun old setup came log done = (t first).1 in
+      let is : IsTold did begun new setup came (log ++ e ∷ []) (done ++ map Says says) = record {
         is = adds begun done was.is;
         took = takings_both done (map Says says) ∙ (ap (λ (z : List Arrival). takings done ++ z) (takings_none says) ∙ (append-nil (takings done) ∙ was.took));
         said = sayings_both done (map Says says) ∙ ((λ i. was.said i ++ sayings_all says i)
             ∙ (ap (λ (z : List Said). sayings (doings setup came log) ++ z) (sym sayings_last)
             ∙ (sym (sayings_both (doings setup came log) (doings_of stage e.call)) ∙ ap sayings (sym doings_last))));
-        in_order = λ o. in_order_last done (none o) (was.in_order (l o));
+        no_sooner = no_sooner_last done was.took was.no_sooner;
       } in
-      (done ++ map Says says, subst (λ (z : List Entry). IsTold did begun new setup came z late' (done ++ map Says says)) (sym h) is)
+      (done ++ map Says says, subst (λ (z : List Entry). IsTold did begun new setup came z (done ++ map Says says)) (sym h) is)
 
 -- ---- where it is asked whether the leader hands over
 
 module _ {O : Type 0} (did : O → O → List Doing → Type 0) (begun : O) (setup : Setup) (came : List Arrival) (log : List Entry) where
-  pub told_asked : (old new : O) (late answer : Bool) (n : ℕ) → Adds did old new (handing answer n) → Tells did begun old setup came log late → Tells did begun new setup came log late
-  told_asked old new late answer n adds t first =
+  pub told_asked : (old new : O) (answer : Bool) (n : ℕ) → Adds did old new (handing answer n) → Tells did begun old setup came log → Tells did begun new setup came log
+  told_asked old new answer n adds t first =
       let done : List Doing = (t first).0 in
-      let was : IsTold did begun old setup came log late done = (t first).1 in
+      let was : IsTold did begun old setup came log done = (t first).1 in
       let more : List Doing = handing answer n in (
         done ++ more,
         record {
           is = adds begun done was.is;
           took = takings_both done more ∙ (ap (λ (z : List Arrival). takings done ++ z) (takings_handing n answer) ∙ (append-nil (takings done) ∙ was.took));
           said = sayings_both done more ∙ (ap (λ (z : List Said). sayings done ++ z) (sayings_handing n answer) ∙ (append-nil (sayings done) ∙ was.said));
-          in_order = λ o. exchanges_both done more ∙ (ap (λ (z : List Doing). exchanges done ++ z) (exchanges_handing n answer) ∙ (append-nil (exchanges done) ∙ was.in_order o));
+          no_sooner =
+              let counts : taken_before 0 (done ++ more) ≡ taken_before 0 done =
+              before_both 0 done more ∙ ap (λ (z : List ℕ). taken_before 0 done ++ z) (before_handing n (0 + length (takings done)) answer) ∙ append-nil (taken_before 0 done) in
+              ap (λ (z : List ℕ). are_at_most (taken_before 0 (doings setup came log)) z) counts ∙ was.no_sooner;
         },
       )

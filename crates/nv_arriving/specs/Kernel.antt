@@ -20,15 +20,13 @@ abbrev pub intake_of : Stage → Request → Intake
 intake_of g c = record { count = taken g c; vain = in_vain (wait_of g.here c) g.rest }
 
 -- What the kernel holds and what has come and isn't taken in yet, the outside as the kernel was made and as it is, all that has come, what was last found that
--- a call takes in, whether something of what came was heard before its call was served or was more than that took in, whether nothing more comes, whether what
--- is said is kept, and the files and the sockets with their memory.
+-- a call takes in, whether nothing more comes, whether what is said is kept, and the files and the sockets with their memory.
 pub record Coming (O : Type 0) : Type 0 where
   pub stage : Stage
   pub begun : O
   pub outside : O
   pub came : List Arrival
   pub intake : Intake
-  pub late : Bool
   pub over : Bool
   pub keeps : Bool
   pub room : Room

@@ -17,7 +17,7 @@ pub record StandsAt {O : Type 0} (did : O → O → List Doing → Type 0) (is_o
   pub stage : g.stage ≡ state_after serve_next (first_stage setup g.came) (calls_of log)
   pub satisfied : g.over ≡ false → Satisfied (first_stage setup g.came) (calls_of log)
   pub ended : g.over ≡ true → is_over g.outside
-  pub told : Tells did g.begun g.outside setup g.came log g.late
+  pub told : Tells did g.begun g.outside setup g.came log
   pub live : live_after log ≡ g.stage.here.state.own.crew.live
   pub crew : IsCrew g.stage.here.state.own.crew
 

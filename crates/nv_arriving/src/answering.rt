@@ -46,8 +46,6 @@ pub struct Guests<O: Outside> {
     used: usize,
     /// What the call takes in that memory was last taken for: found in `reserve`, for `answer` too.
     intake: Intake,
-    /// Something was heard for a call that was then not served, or was more than the served call took in.
-    late: bool,
     /// Nothing more comes from outside.
     over: bool,
     /// What is said is kept; else it is let go once it is said.
@@ -68,7 +66,6 @@ impl<O: Outside> Model for Guests<O> {
       outside = g.outside;
       came = map arrival_of g.came.items;
       intake = g.intake;
-      late = g.late;
       over = g.over;
       keeps = g.keeps;
       room = room_of g.side;
@@ -83,14 +80,6 @@ fn first(rest: &[Arrival], count: usize) -> &[Arrival]
     ensures { result.now ≡ take count rest.now }
 {
     &rest[..count]
-}
-
-// Some that came was not taken in by the call that it was heard for, or is not now.
-fn is_late(late: bool, came: &Past<Arrival>, used: usize) -> bool
-    ensures still { result ≡ false → late ≡ false }
-    ensures all { result ≡ false → length came.now.items ≤ used }
-{
-    late || used < came.len()
 }
 
 // Those that have come are let go where the guests' side has them all.
@@ -113,7 +102,7 @@ impl<O: Outside> Guests<O> {
         keeps: bool,
     ) -> Result<Guests<O>, AllocError>
         ensures stands { IfOk result (λ made. StandsAt O.did O.is_over made (setup_of script.now) []) }
-        ensures made { IfOk result (λ made. (made.came ≡ []) × (made.begun ≡ outside) × (made.outside ≡ outside) × (made.late ≡ false)) }
+        ensures made { IfOk result (λ made. (made.came ≡ []) × (made.begun ≡ outside) × (made.outside ≡ outside)) }
         ensures kept { IfOk result (λ made. (made.keeps ≡ keeps) × IsKept made.room) }
     {
         let side = GuestSide::make(alloc, script)?;
@@ -131,7 +120,7 @@ impl<O: Outside> Guests<O> {
         requires first { standing_of side ≡ first_standing (setup_of script.now) }
         requires kept { IsKept (room_of side) }
         ensures stands { StandsAt O.did O.is_over result (setup_of script.now) [] }
-        ensures made { (result.came ≡ []) × (result.begun ≡ outside) × (result.outside ≡ outside) × (result.late ≡ false) }
+        ensures made { (result.came ≡ []) × (result.begun ≡ outside) × (result.outside ≡ outside) }
         ensures kept { (result.keeps ≡ keeps) × IsKept result.room }
     {
         let begun = Snapshot::of(&outside);
@@ -143,7 +132,6 @@ impl<O: Outside> Guests<O> {
             came: Past::new(alloc),
             used: 0,
             intake: Intake::nothing(),
-            late: false,
             over: false,
             keeps,
         }
@@ -204,7 +192,6 @@ impl Guests<Nothing> {
             came,
             used: 0,
             intake: Intake::nothing(),
-            late: false,
             over: true,
             keeps: true,
         })
@@ -287,7 +274,6 @@ impl<O: Outside + Telling + Send> Answers for Guests<O> {
             &mut self.outside,
         );
         self.used += count;
-        self.late = is_late(self.late, &self.came, self.used);
         pass(&mut self.came, self.used);
         ret
     }

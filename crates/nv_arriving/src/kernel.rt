@@ -33,7 +33,7 @@ pub fn arriving<O: Outside + Telling + Send>(
     outside: O,
 ) -> Result<ArrivingKernel<O>, O>
     requires script { IsTrue (is_script (setup_of script.now)) }
-    ensures begun { IfOk result (λ k. (k.log ≡ []) × (k.setup ≡ setup_of script.now) × (k.answers.came ≡ []) × (k.answers.begun ≡ outside) × (k.answers.outside ≡ outside) × (k.answers.late ≡ false)) }
+    ensures begun { IfOk result (λ k. (k.log ≡ []) × (k.setup ≡ setup_of script.now) × (k.answers.came ≡ []) × (k.answers.begun ≡ outside) × (k.answers.outside ≡ outside)) }
     ensures same { IfErr result (λ given. given ≡ outside) }
 {
     let Ok(side) = GuestSide::make(alloc, script) else {
@@ -46,11 +46,11 @@ pub fn arriving<O: Outside + Telling + Send>(
     }
 }
 
-/// The outside of a kernel that is done with, with what it tells: all that came was taken in its order, and all that the log says was said
-/// in its order. No call of the log waited in vain, or nothing more came.
+/// The outside of a kernel that is done with, with what it tells: all that came was taken in its order, all that the log says was said in its
+/// order, and nothing before what its calls take in up to there was taken. No call of the log waited in vain, or nothing more came.
 pub fn into_outside<O: Outside + Telling + Send>(kernel: ArrivingKernel<O>) -> O
     ensures is { result ≡ kernel.answers.outside }
-    ensures told { Tells O.did kernel.answers.begun kernel.answers.outside kernel.setup kernel.answers.came kernel.log kernel.answers.late }
+    ensures told { Tells O.did kernel.answers.begun kernel.answers.outside kernel.setup kernel.answers.came kernel.log }
     ensures waited { Satisfied (first_stage kernel.setup kernel.answers.came) (calls_of kernel.log) ⊎ O.is_over kernel.answers.outside }
 {
     kernel.into_answers().into_outside()

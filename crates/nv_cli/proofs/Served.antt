@@ -5,14 +5,13 @@ use Rattle.std.specs.Result.{is_ok}
 use Rattle.std.proofs.lemmas.Bool.{and_parts}
 use Rattle.nv_arrivals.specs.Arrivals.{Arrival, is_arrival, BringsBytes}
 use Rattle.nv_arrivals.specs.Order.{most_clients, are_orderly, are_arrivals}
-use Rattle.nv_arrivals.specs.Doings.{Doing, Takes, takings, sayings, handings, exchanges}
-use Rattle.nv_arriving.specs.Arriving.{serve_next, first_stage, start_of_arrivals, Satisfied}
+use Rattle.nv_arrivals.specs.Doings.{Doing, takings, sayings, handings}
+use Rattle.nv_arriving.specs.Arriving.{first_stage, start_of_arrivals, Satisfied}
 use Rattle.nv_arriving.specs.Doings.{doings}
 use Rattle.nv_arriving.specs.Kernel.{Coming}
 use Rattle.nv_arriving.specs.Scripted.{start_from}
-use Rattle.nv_arriving.specs.Telling.{Tells, IsTold}
+use Rattle.nv_arriving.specs.Telling.{taken_before, are_at_most, Tells, IsTold}
 use Rattle.nv_bpf.specs.declared.op.Op.{Op}
-use Rattle.nv_calls.specs.Answer.{state_after}
 use Rattle.nv_calls.specs.Calls.{Entry}
 use Rattle.nv_calls.specs.Logs.{calls_of}
 use Rattle.nv_command.specs.Words.{Limits}
@@ -148,10 +147,10 @@ module _ {I O T : Type 0} (took : I → Option (List (List ℕ))) (unread : I �
         (stood_at done t b) asked))
 
     -- what was done over the run of a log
-    lived : (arrivals : List Arrival) (log : List Entry) (late : Bool) (done : List Doing) → IsTold (DidRun took unread moments said unsaid noted unnoted) first later setup arrivals log late done
+    lived : (arrivals : List Arrival) (log : List Entry) (done : List Doing) → IsTold (DidRun took unread moments said unsaid noted unnoted) first later setup arrivals log done
         → Satisfied (first_stage setup arrivals) (calls_of log) ⊎ IsOver later
         → Lived clients (with_arrivals setup arrivals) log ending (streams_of took unread moments said unsaid noted unnoted before) (streams_of took unread moments said unsaid noted unnoted after)
-    lived arrivals log late done t waited =
+    lived arrivals log done t waited =
         let s = shown took unread moments said unsaid noted unnoted first later done t.is in
         let came = came_by (takings done) (handings done) (told took unread moments said unsaid noted unnoted first) begun s.came in
         let planned = s.planned setup.hands sound (begun.hands_are ∙ ap (λ way. hands_by way setup.hands) (sym begun.way)) in
@@ -159,8 +158,7 @@ module _ {I O T : Type 0} (took : I → Option (List (List ℕ))) (unread : I �
           done = done;
           took_all = t.took;
           said_all = t.said ∙ ap sayings (does_alike setup arrivals log);
-          late = late;
-          in_order = subst (λ all. late ≡ false → exchanges done ≡ all ++ map Takes (state_after serve_next (first_stage setup arrivals) (calls_of log)).rest) (does_alike setup arrivals log) t.in_order;
+          no_sooner = ap (λ (all : List Doing). are_at_most (taken_before 0 all) (taken_before 0 done)) (sym (does_alike setup arrivals log)) ∙ t.no_sooner;
           stopped = source_stop later;
           line = line_of later;
           held = held_by later;
@@ -185,7 +183,7 @@ module _ {I O T : Type 0} (took : I → Option (List (List ℕ))) (unread : I �
       → map process_of versions ≡ map (process_begun limits setup) machines → is_script setup ≡ true → IsTranscript head setup → setup.arrivals ≡ [] → IsPlanned setup hands
       → IsBegunOver took unread moments said unsaid noted unnoted clients setup head before kernel
       → RanOver (told took unread moments said unsaid noted unnoted) clients kernel rules limits.calls hands versions account
-      → Tells (DidRun took unread moments said unsaid noted unnoted) account.kernel.answers.begun account.kernel.answers.outside account.kernel.setup account.kernel.answers.came account.kernel.log account.kernel.answers.late
+      → Tells (DidRun took unread moments said unsaid noted unnoted) account.kernel.answers.begun account.kernel.answers.outside account.kernel.setup account.kernel.answers.came account.kernel.log
       → Satisfied (first_stage account.kernel.setup account.kernel.answers.came) (calls_of account.kernel.log) ⊎ IsOver account.kernel.answers.outside
       → HasLeft noted unnoted account.kernel.answers.outside after ending
       → Served limits clients setup rules machines (streams_of took unread moments said unsaid noted unnoted before) sink faults status sink faults
@@ -208,8 +206,8 @@ module _ {I O T : Type 0} (took : I → Option (List (List ℕ))) (unread : I �
             (ap (λ s. start_of_arrivals s k.answers.came) set ∙ begun_alike setup k.answers.came ran.account_is.asked) ran.account_is.is_account) ran.account_is.stays
             are;
         says = record { put = Ok tt; ends = ends; written = puts-none sink faults };
-        lived = lived clients setup sound head begins none before after k.answers.begun k.answers.outside first ending left k.answers.came k.log k.answers.late all.0
-            (subst (λ s. IsTold (DidRun took unread moments said unsaid noted unnoted) k.answers.begun k.answers.outside s k.answers.came k.log k.answers.late all.0) set all.1)
+        lived = lived clients setup sound head begins none before after k.answers.begun k.answers.outside first ending left k.answers.came k.log all.0
+            (subst (λ s. IsTold (DidRun took unread moments said unsaid noted unnoted) k.answers.begun k.answers.outside s k.answers.came k.log all.0) set all.1)
             (subst (λ s. Satisfied (first_stage s k.answers.came) (calls_of k.log) ⊎ IsOver k.answers.outside) set waited);
       }
 

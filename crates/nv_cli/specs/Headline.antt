@@ -77,7 +77,7 @@ use Rattle.nv_script.specs.HandLines.{hand_line}
 use Rattle.nv_script.specs.Scripts.{Named, Incoming, Setup, Draft, blank, has_name, with_argument, with_input, with_named_file, with_clock, with_seed, has_hand, with_hand, with_connection, with_came, with_arrival, with_entry, with_result, with_script_line, onward as nv_script_onward, drafted, no_clock, setup_with, finished, finished_result, no_form, script_in, script_of_lines, script_of}
 use Rattle.nv_script.specs.Texts.{cause_word, script_fault_text}
 use Rattle.nv_arrivals.specs.Arrivals.{Arrival, is_sized, is_port, is_nanos, is_arrival, AreBytes, BringsBytes}
-use Rattle.nv_arrivals.specs.Doings.{Said, Doing, takings, sayings, handings, exchanges}
+use Rattle.nv_arrivals.specs.Doings.{Said, Doing, takings, sayings, handings}
 use Rattle.nv_arrivals.specs.Order.{most_clients, Came, nothing_came, input_going, input_ended, clients_ended, with_client, is_going, not_going, sending, without as nv_arrivals_without, client_ended, admitted, onward, after, are_orderly, are_arrivals}
 use Rattle.nv_arrivals.specs.Pieces.{cut_after, pieces, input_of}
 use Rattle.nv_arrivals.specs.Reading.{words as nv_arrivals_words, word_of, is_word, is_timeless, is_timeless_word, sized, bytes_of as nv_arrivals_bytes_of, line_arrival, input_with, connect_with, data_with, data_parts, data_in, end_with, end_of, time_with, time_parts, time_in, arrival_by, arrival_with, arrival_of}
@@ -120,6 +120,7 @@ use Rattle.nv_arriving.specs.Polling.{polled_at, looked_as, looked_at, listed_co
 use Rattle.nv_arriving.specs.Scripted.{start_from, stage_from}
 use Rattle.nv_arriving.specs.Selecting.{SPECIAL, set_events, set_bits, has_bit, PASSED, selected_at}
 use Rattle.nv_arriving.specs.Standings.{Standing, is_over as nv_arriving_is_over, with_state as nv_arriving_with_state}
+use Rattle.nv_arriving.specs.Telling.{taken_before, are_at_most}
 use Rattle.nv_arriving.specs.Timing.{word, time_in as nv_arriving_time_in, now, at, after_time, after as nv_arriving_Timing_after, poll_until, is_clock, base, sleep_until, until_as, until_of, is_past, reaches, is_reached, sleep_wants, with_time, slept}
 -- ---- The guest: instructions, memory, threads
 -- Begin with `effect` of nv_machine's Guest and the table of instructions (nv_isa's Table), then nv_threads.

@@ -1,11 +1,11 @@
 -- A live run: what its files come to, and what it does over standard input, standard output and its transcript.
-use Rattle.std.specs.Prelude.{◌≡◌, ◌⊎◌, ℕ, ◌+◌, ◌-◌, Bool, false, not, ◌==◌, List, [], ◌∷◌, ◌++◌, Option, None, Some, option_map, IsSome, Result, Ok, Err, if◌then◌else◌, codes, length, drop, map, get_or}
+use Rattle.std.specs.Prelude.{◌≡◌, ◌⊎◌, ℕ, ◌+◌, ◌-◌, Bool, true, false, not, ◌==◌, List, [], ◌∷◌, ◌++◌, Option, None, Some, option_map, IsSome, Result, Ok, Err, if◌then◌else◌, codes, length, drop, map, get_or}
 use Rattle.std.specs.List.{All, prefix_len}
 use Rattle.nv_arrivals.specs.Arrivals.{Arrival, BringsBytes}
-use Rattle.nv_arrivals.specs.Doings.{Doing, Takes, takings, sayings, handings, exchanges}
-use Rattle.nv_arriving.specs.Arriving.{serve_next, first_stage, Satisfied}
+use Rattle.nv_arrivals.specs.Doings.{Doing, takings, sayings, handings}
+use Rattle.nv_arriving.specs.Arriving.{first_stage, Satisfied}
 use Rattle.nv_arriving.specs.Doings.{doings}
-use Rattle.nv_calls.specs.Answer.{state_after}
+use Rattle.nv_arriving.specs.Telling.{taken_before, are_at_most}
 use Rattle.nv_calls.specs.Calls.{Entry}
 use Rattle.nv_calls.specs.Logs.{calls_of}
 use Rattle.nv_command.specs.Words.{Limits, Service}
@@ -150,7 +150,7 @@ pub record StoodAt (clients : Bool) (before : Streams) (head : List ℕ) (done :
   pub told : Put
   pub noted : Puts before.noted before.unnoted (head ++ notes_on earlier) told moment.noted moment.unnoted
 
--- A live run over these streams, by its log: what was taken and what was said are each in the log's order. `in_order` relates the two where nothing was late, and no field ties `late` to the run.
+-- A live run over these streams, by its log: what was taken and what was said are each in the log's order, and nothing was said before what the log's calls take in up to there was taken.
 -- No call waited in vain, or a stream had stopped: a read that failed or gave nothing, a line that was refused or cut off, or a failed write of what was said. So the guests were told of no end without one.
 -- The bytes are those of the streams: what was read, as plain input or as lines of clients, and so is what no call took; the bytes or the lines of what was said; and the transcript. That begins with a text that
 -- says what the run began with, is up to the last line of an arrival or of a hand-over a script that says the whole run (an arrival's numbers are bytes wherever bytes were read), and has what no call took behind it, as comments.
@@ -158,8 +158,7 @@ pub record Lived (clients : Bool) (setup : Setup) (log : List Entry) (ending : E
   pub done : List Doing
   pub took_all : takings done ≡ setup.arrivals
   pub said_all : sayings done ≡ sayings (doings setup setup.arrivals log)
-  pub late : Bool
-  pub in_order : late ≡ false → exchanges done ≡ doings setup setup.arrivals log ++ map Takes (state_after serve_next (first_stage setup setup.arrivals) (calls_of log)).rest
+  pub no_sooner : are_at_most (taken_before 0 (doings setup setup.arrivals log)) (taken_before 0 done) ≡ true
   pub stopped : Option Stopped
   pub line : List ℕ
   pub held : List ℕ

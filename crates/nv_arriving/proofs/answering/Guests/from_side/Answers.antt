@@ -1,4 +1,4 @@
-use Rattle.std.proofs.Common.{◌≡◌, sym, ap, subst, false, List, [], map}
+use Rattle.std.proofs.Common.{◌≡◌, sym, ap, subst, List, [], map}
 use Rattle.nv_script.specs.Scripts.{Setup}
 use Rattle.nv_script.specs.Views.{setup_of}
 use Rattle.nv_arrivals.specs.Arrivals.{Arrival}
@@ -14,5 +14,5 @@ returns-clause-stands g c =
     let setup : Setup = setup_of c.args.script.now in
     let none : map arrival_of c.new.result.items ≡ [] = ap (map arrival_of) c.new.ensures.items in
     stands_first g.O.Outside.did g.O.Outside.is_over setup [] _ (λ i. record { here = c.requires.first i; rest = none i }) none (λ o. cc)
-    (subst (λ (z : g.row.O.Denot). Tells g.O.Outside.did begun z setup (map arrival_of c.new.result.items) [] false) c.of-begun.ensures
-    (subst (λ (z : List Arrival). Tells g.O.Outside.did begun begun setup z [] false) (sym none) (told_first g.O.Outside.did begun setup)))
+    (subst (λ (z : g.row.O.Denot). Tells g.O.Outside.did begun z setup (map arrival_of c.new.result.items) []) c.of-begun.ensures
+    (subst (λ (z : List Arrival). Tells g.O.Outside.did begun begun setup z []) (sym none) (told_first g.O.Outside.did begun setup)))

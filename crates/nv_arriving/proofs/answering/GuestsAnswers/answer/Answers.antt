@@ -1,5 +1,5 @@
-use Rattle.std.proofs.Common.{rules, to_z, of_z, w32, ℤ, ◌≡◌, ◌∙◌, sym, ap, subst, refl, false, ◌+◌, ◌<◌, ◌≤◌, [], List, length, map, take, drop, option_map, arith}
-use Rattle.std.proofs.lemmas.List.{length-map, length-take, length-drop}
+use Rattle.std.proofs.Common.{rules, to_z, of_z, w32, ℤ, ◌≡◌, ◌∙◌, sym, ap, subst, refl, false, ◌+◌, ◌<◌, ◌≤◌, List, length, map, take, drop, option_map, arith}
+use Rattle.std.proofs.lemmas.List.{length-take, length-drop}
 use Rattle.nv_calls.specs.Answer.{Answer}
 use Rattle.nv_calls.specs.Calls.{Request, request}
 use Rattle.nv_kernel.specs.Answering.{IsAnswer}
@@ -20,7 +20,6 @@ use Rattle.nv_arriving.specs.Telling.{Adds}
 use Rattle.nv_arriving.specs.Views.{standing_of, room_of}
 use Rattle.nv_arriving.proofs.Kept.{drop_more, intake_inside, first_is}
 use Rattle.nv_arriving.proofs.Standings.{few_served, few_clones, is_answer}
-use Rattle.nv_arriving.proofs.Taken.{drop_past}
 use Rattle.nv_arriving.proofs.answering.GuestsAnswers.answer.Given.{Over}
 use Rattle.nv_arriving.proofs.answering.GuestsAnswers.answer.Goals.{After-pass}
 use Rattle.nv_arriving.proofs.answering.GuestsAnswers.answer.Goals as goal
@@ -71,7 +70,7 @@ module _ (g : Over) (c : After-pass g) where
 
   -- as it was, and as the call leaves it
   abbrev was : Coming g.row.O.Denot
-  was = record { stage = mine; begun = c.self.inside.begun.value; outside = c.self.inside.outside; came = came; intake = c.self.inside.intake; late = c.self.inside.late; over = c.self.inside.over; keeps = c.self.inside.keeps; room = room_of c.self.inside.side }
+  was = record { stage = mine; begun = c.self.inside.begun.value; outside = c.self.inside.outside; came = came; intake = c.self.inside.intake; over = c.self.inside.over; keeps = c.self.inside.keeps; room = room_of c.self.inside.side }
 
   found : c.self.inside.intake ≡ intake_of mine call
   found = subst (λ (k : Coming g.row.O.Denot). k.intake ≡ intake_of k.stage call) (sym c.self.view_is) c.requires.ready.found
@@ -83,7 +82,6 @@ module _ (g : Over) (c : After-pass g) where
     outside = c.answer-ret.new.outside;
     came = map arrival_of came';
     intake = c.self.inside.intake;
-    late = c.is_late-self-inside.result;
     over = c.self.inside.over;
     keeps = c.self.inside.keeps;
     room = room_of c.answer-ret.new.self;
@@ -124,11 +122,8 @@ module _ (g : Over) (c : After-pass g) where
   waits : was.over ≡ false → in_vain (wait_of mine.here call) mine.rest ≡ false
   waits = subst (λ (k : Coming g.row.O.Denot). k.over ≡ false → in_vain (wait_of k.stage.here call) k.stage.rest ≡ false) (sym c.self.view_is) c.requires.ready.waits
 
-  none : now.late ≡ false → now.stage.rest ≡ []
-  none o = drop_past (c.self.inside.used + c.self.inside.intake.count) came (omega (arith, c.is_late-self-inside.ensures.all o, length-map c.self.inside.came.items arrival_of))
-
   is : IsAnswer (λ setup. start_of_arrivals setup came) (StandsAt g.O.Outside.did g.O.Outside.is_over was) (StandsAt g.O.Outside.did g.O.Outside.is_over now) call c.answer-ret.result c.answer-ret.new.out.bytes
-  is = is_answer g.O.Outside.did g.O.Outside.is_over was now call c.answer-ret.result c.answer-ret.new.out.bytes c.requires.shaped refl refl refl answer next waits says c.answer-ret.ensures.stays c.is_late-self-inside.ensures.still none
+  is = is_answer g.O.Outside.did g.O.Outside.is_over was now call c.answer-ret.result c.answer-ret.new.out.bytes c.requires.shaped refl refl refl answer next waits says c.answer-ret.ensures.stays
 
   inside : c.self.inside.used + c.self.inside.intake.count ≤ length c.self.inside.came.items
   inside = intake_inside mine.here call c.self.inside.came.items c.self.inside.used c.self.inside.intake c.self.invariant.0 found

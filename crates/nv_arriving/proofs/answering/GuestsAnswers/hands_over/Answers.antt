@@ -16,7 +16,6 @@ returns-clause-stands g c = λ setup log s.
       outside = c.self.inside.outside;
       came = came;
       intake = c.self.inside.intake;
-      late = c.self.inside.late;
       over = c.self.inside.over;
       keeps = c.self.inside.keeps;
       room = room_of c.self.inside.side;

@@ -43,7 +43,6 @@ module _ (g : Over) (c : After-learn g) where
     outside = c.learn.new.outside;
     came = now;
     intake = found;
-    late = c.self.inside.late;
     over = c.learn.new.over;
     keeps = c.self.inside.keeps;
     room = room;
@@ -51,13 +50,13 @@ module _ (g : Over) (c : After-learn g) where
 
   stands : (found : Intake) (room : Room) (setup : Setup) (log : List Entry) → StandsAt g.O.Outside.did g.O.Outside.is_over c.args.self.now setup log → StandsAt g.O.Outside.did g.O.Outside.is_over (heard found room) setup log
   stands found room setup log s = stands_heard g.O.Outside.did g.O.Outside.is_over c.self.inside.begun.value c.self.inside.outside c.learn.new.outside before now c.self.inside.intake found (standing_of c.self.inside.side) c.self.inside.used
-      c.self.inside.over c.learn.new.over c.self.inside.late c.self.inside.keeps (room_of c.self.inside.side) room few c.learn.ensures.over same c.learn.ensures.grew c.learn.ensures.did c.learn.ensures.ended setup log
+      c.self.inside.over c.learn.new.over c.self.inside.keeps (room_of c.self.inside.side) room few c.learn.ensures.over same c.learn.ensures.grew c.learn.ensures.did c.learn.ensures.ended setup log
       (subst (λ (k : Coming g.row.O.Denot). StandsAt g.O.Outside.did g.O.Outside.is_over k setup log) (sym c.self.view_is) s)
 
   goes : (setup : Setup) (log : List Entry) → StandsAt g.O.Outside.did g.O.Outside.is_over c.args.self.now setup log → GoesOn log (start_of_arrivals setup c.args.self.now.came) (start_of_arrivals setup now)
   goes setup log s = subst (λ (k : Coming g.row.O.Denot). GoesOn log (start_of_arrivals setup k.came) (start_of_arrivals setup now)) c.self.view_is
       (goes_heard g.O.Outside.did g.O.Outside.is_over c.self.inside.begun.value c.self.inside.outside c.learn.new.outside before now c.self.inside.intake c.self.inside.intake (standing_of c.self.inside.side) c.self.inside.used
-      c.self.inside.over c.learn.new.over c.self.inside.late c.self.inside.keeps (room_of c.self.inside.side) (room_of c.self.inside.side) few c.learn.ensures.over same c.learn.ensures.grew c.learn.ensures.did c.learn.ensures.ended setup log
+      c.self.inside.over c.learn.new.over c.self.inside.keeps (room_of c.self.inside.side) (room_of c.self.inside.side) few c.learn.ensures.over same c.learn.ensures.grew c.learn.ensures.did c.learn.ensures.ended setup log
       (subst (λ (k : Coming g.row.O.Denot). StandsAt g.O.Outside.did g.O.Outside.is_over k setup log) (sym c.self.view_is) s))
 
 pub returns-in_err-self-inside-clause-stands : goal.returns-in_err-self-inside-clause-stands
