@@ -7,6 +7,18 @@ use std::alloc::{AllocError, Global};
 use std::marker::Model;
 use std::mem;
 
+// Where a number stands if none is gone between the first that is there and it: mostly so, and found without a search.
+fn guess(numbers: &[usize], number: usize) -> Option<usize>
+    ensures { IfSome result (λ p. (p < length numbers.now) × (slice_index numbers.now p ≡ number)) }
+{
+    let place = number.checked_sub(*numbers.first()?)?;
+    if *numbers.get(place)? == number {
+        Some(place)
+    } else {
+        None
+    }
+}
+
 /// Items numbered from 0 in the order in which they came, of which some may be let go. In contracts it is the whole list, with the
 /// numbers of those that are there, ascending. A place is a place among those that are there.
 #[derive(Drop)]
@@ -73,7 +85,11 @@ impl<T> Table<T> {
         ensures gone { IfNone result ((p : ℕ) → p < length self.now.numbers → slice_index self.now.numbers p ≢ number) }
         ensures all { length self.now.numbers ≡ length self.now.items → number < length self.now.items → result ≡ Some number }
     {
-        match self.numbers.as_slice().binary_search(&number) {
+        let numbers = self.numbers.as_slice();
+        if let Some(place) = guess(numbers, number) {
+            return Some(place);
+        }
+        match numbers.binary_search(&number) {
             Ok(place) => Some(place),
             Err(_) => None,
         }
