@@ -22,6 +22,9 @@ use Rattle.nv_arrivals.specs.Views.{view as arrival_of}
 use Rattle.nv_arriving.proofs.Steps.{drop_map, take_map}
 use Rattle.nv_arriving.proofs.Taken.{not_is}
 use Rattle.nv_arriving.specs.Timing.{until_of}
+use Rattle.nv_arriving.specs.declared.timing.Until.{Until}
+use Rattle.nv_calls.specs.declared.numbers.Syscall.{Syscall}
+use Rattle.nv_calls.specs.Numbers.{syscall_of}
 use Rattle.nv_arriving.proofs.LaterLaws.{vain_state, by_served, by_clones}
 use Rattle.nv_arriving.proofs.Sides.{crew_still, served_still}
 
@@ -118,14 +121,14 @@ taken_inside g c used came h e = omega (arith, h, taken_few (wait_of g.here c) g
 -- ---- which of those that came the call takes in
 
 -- by what the call waits for
-pub intake_is : (s : Standing) (c : Request) (want : Want) (xs : List Arrival) (count : ℕ) (vain : Bool)
-    → wants s c ≡ Some want → count ≡ until (ends s c want) xs → vain ≡ not (any_ends (ends s c want) xs)
-    → record { count = count; vain = vain } ≡ intake_of record { here = s; rest = xs } c
-intake_is s c want xs count vain e n v =
+pub intake_is : (s : Standing) (c : Request) (want : Want) (xs : List Arrival) (syscall : Syscall) (u : Until) (count : ℕ) (vain : Bool)
+    → syscall ≡ syscall_of c.nr → u ≡ until_of s c → wants s c ≡ Some want → count ≡ until (ends s c want) xs → vain ≡ not (any_ends (ends s c want) xs)
+    → record { syscall = syscall; until = u; count = count; vain = vain } ≡ intake_of record { here = s; rest = xs } c
+intake_is s c want xs syscall u count vain k t e n v =
     let o : Some (ends s c want) ≡ wait_of s c = ap (option_map (ends s c)) (sym e) in
     let taken_is : count ≡ taken_for (wait_of s c) xs = n ∙ ap (λ z. taken_for z xs) o in
     let vain_is : vain ≡ in_vain (wait_of s c) xs = v ∙ (not_is (any_ends (ends s c want) xs) ∙ ap (λ z. in_vain z xs) o) in
-    λ i. record { count = taken_is i; vain = vain_is i }
+    λ i. record { syscall = k i; until = t i; count = taken_is i; vain = vain_is i }
 
 -- no more than came
 pub intake_inside : (s : Standing) (c : Request) (came : List code.Arrival) (used : ℕ) (found : Intake) → used ≤ length came

@@ -1,6 +1,7 @@
 pub mod Coming
 pub mod Taken
 pub mod LaterLaws
+mod Looking
 pub mod Sides
 pub mod Rooms
 pub mod Inboxes

@@ -1,6 +1,7 @@
 -- What answers where input arrives keeps from call to call.
 use Rattle.std.specs.Prelude.{◌≡◌, Bool, true, false, List, take, drop, length, ◌++◌}
 use Rattle.nv_calls.specs.Calls.{Request}
+use Rattle.nv_calls.specs.Numbers.{syscall_of}
 use Rattle.nv_script.specs.Scripts.{Setup}
 use Rattle.nv_kernel.specs.Reserved as kernel
 use Rattle.nv_sockets.specs.Reserved.{CanSend}
@@ -8,6 +9,7 @@ use Rattle.nv_arrivals.specs.Arrivals.{Arrival}
 use Rattle.nv_arriving.specs.Arrivals.{in_vain}
 use Rattle.nv_arriving.specs.Arriving.{Stage, wait_of, taken}
 use Rattle.nv_arriving.specs.declared.waiting.Intake.{Intake}
+use Rattle.nv_arriving.specs.Timing.{until_of}
 use Rattle.nv_arriving.specs.Reserved.{Room, CanTakeIn, IsKept}
 
 -- what a kernel is made over: what the script gives, and what the outside told then
@@ -15,12 +17,12 @@ pub record Begun (T : Type 0) : Type 0 where
   pub setup : Setup
   pub told : T
 
--- how many arrivals a call takes in at a stage, and whether it waits in vain there
+-- which call it is and when its wait is over, how many arrivals it takes in at a stage, and whether it waits in vain there
 abbrev pub intake_of : Stage → Request → Intake
-intake_of g c = record { count = taken g c; vain = in_vain (wait_of g.here c) g.rest }
+intake_of g c = record { syscall = syscall_of c.nr; until = until_of g.here c; count = taken g c; vain = in_vain (wait_of g.here c) g.rest }
 
--- What the kernel holds and what has come and isn't taken in yet, the outside as the kernel was made and as it is, all that has come, what was last found that
--- a call takes in, whether nothing more comes, whether what is said is kept, and the files and the sockets with their memory.
+-- What the kernel holds and what has come and isn't taken in yet, the outside as the kernel was made and as it is, all that has come, what was last found of a
+-- call, whether nothing more comes, whether what is said is kept, and the files and the sockets with their memory.
 pub record Coming (O : Type 0) : Type 0 where
   pub stage : Stage
   pub begun : O

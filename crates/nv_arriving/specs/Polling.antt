@@ -104,9 +104,12 @@ told_of s p = if is_passed p then 0 else told p (events s p.fd)
 abbrev pub is_ready : Standing → Request → ℕ → Bool
 is_ready s c place = not (told_of s (looked_at c place) == 0)
 
--- in how many places
+-- in how many of these places
+abbrev pub ready_in : Standing → Request → List ℕ → ℕ
+ready_in s c some = length (filter (is_ready s c) some)
+
 abbrev pub ready : Standing → Request → ℕ
-ready s c = length (filter (is_ready s c) (places c))
+ready s c = ready_in s c (places c)
 
 -- ---- what ends its wait
 

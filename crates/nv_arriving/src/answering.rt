@@ -19,6 +19,7 @@ ghost use Rattle.nv_arriving.specs.Views.{standing_of, room_of};
 use crate::arrivals::{learn, rest};
 use crate::guests::GuestSide;
 use crate::listed::{Nothing, copies};
+use crate::timing::Until;
 use crate::waiting::Intake;
 use nv_arrivals::{Arrival, Outside};
 use nv_calls::{Bytes, Call, Syscall};
@@ -44,7 +45,7 @@ pub struct Guests<O: Outside> {
     came: Past<Arrival>,
     /// How many of these the guests' side has. They are let go.
     used: usize,
-    /// What the call takes in that memory was last taken for: found in `reserve`, for `answer` too.
+    /// Of the call that memory was last taken for: found in `reserve`, for `answer` too.
     intake: Intake,
     /// Nothing more comes from outside.
     over: bool,
@@ -131,7 +132,7 @@ impl<O: Outside> Guests<O> {
             outside,
             came: Past::new(alloc),
             used: 0,
-            intake: Intake::nothing(),
+            intake: Intake::nothing(Syscall::Unknown, Until::Never),
             over: false,
             keeps,
         }
@@ -191,7 +192,7 @@ impl Guests<Nothing> {
             outside,
             came,
             used: 0,
-            intake: Intake::nothing(),
+            intake: Intake::nothing(Syscall::Unknown, Until::Never),
             over: true,
             keeps: true,
         })
@@ -231,6 +232,7 @@ impl<O: Outside + Telling + Send> Answers for Guests<O> {
         ensures kept { KeepsOn self.old self.new }
     {
         let syscall = Syscall::of(call.nr);
+        let until = self.side.until(syscall, call);
         self.intake = learn(
             &mut self.outside,
             self.alloc,
@@ -240,6 +242,7 @@ impl<O: Outside + Telling + Send> Answers for Guests<O> {
             &self.side,
             syscall,
             call,
+            until,
         )?;
         let rest = rest(&self.came, self.used);
         self.side
@@ -263,10 +266,16 @@ impl<O: Outside + Telling + Send> Answers for Guests<O> {
         ensures gone { self.old.keeps ≡ false → self.new.room.disk.gone ≡ length self.new.room.disk.state.console }
     {
         let rest = rest(&self.came, self.used);
-        let Intake { count, vain } = self.intake;
+        let Intake {
+            syscall,
+            until,
+            count,
+            vain,
+        } = self.intake;
         let ret = self.side.answer(
-            Syscall::of(call.nr),
+            syscall,
             call,
+            until,
             first(rest, count),
             vain,
             self.keeps,

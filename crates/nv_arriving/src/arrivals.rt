@@ -6,6 +6,7 @@ ghost use Rattle.nv_calls.specs.Calls.{request};
 ghost use Rattle.nv_calls.specs.Numbers.{syscall_of};
 ghost use Rattle.nv_arriving.specs.Arrivals.{ends, any_ends, in_vain, until};
 ghost use Rattle.nv_arriving.specs.Arriving.{wait_of};
+ghost use Rattle.nv_arriving.specs.Timing.{until_of};
 ghost use Rattle.nv_arriving.specs.Views.{standing_of};
 ghost use Rattle.nv_arriving.specs.Kernel.{after, intake_of, Grew};
 ghost use Rattle.nv_arriving.specs.Telling.{Adds};
@@ -84,8 +85,10 @@ pub(crate) fn learn<O: Outside>(
     side: &GuestSide,
     syscall: Syscall,
     call: &Call,
+    until: Until,
 ) -> Result<Intake, AllocError>
     requires syscall { syscall ≡ syscall_of call.now.nr }
+    requires until { until ≡ until_of (standing_of side.now) (request call.now) }
     requires there { came.old.gone ≤ used }
     requires inside { used ≤ length came.old.items }
     ensures grew { Grew (map arrival_of came.old.items) (map arrival_of came.new.items) }
@@ -99,16 +102,18 @@ pub(crate) fn learn<O: Outside>(
     ensures inside { IfOk result (λ found. used + found.count ≤ length came.new.items) }
     ensures waits { OnOk result (over.new ≡ false → in_vain (wait_of (standing_of side.now) (request call.now)) (drop used (map arrival_of came.new.items)) ≡ false) }
 {
-    let Some(want) = side.wants(syscall, call) else {
-        return Ok(Intake::nothing());
+    let Some(want) = side.wants(syscall, call, until) else {
+        return Ok(Intake::nothing(syscall, until));
     };
-    let found = side.intake(syscall, call, want, rest(came, used));
+    let found = side.intake(syscall, call, until, want, rest(came, used));
     if *over || !found.vain {
         return Ok(found);
     }
     tell_deadline(outside, want);
     *over = hear(outside, alloc, came, side, syscall, call, want)?;
     Ok(Intake {
+        syscall,
+        until,
         count: came.len() - used,
         vain: *over,
     })

@@ -21,6 +21,7 @@ ghost use Rattle.nv_arriving.specs.Views.{standing_of, room_of};
 use crate::nonblocking::NonBlocking;
 use crate::prepared::Prepared;
 use crate::reserving::{connects, forget_all, input_bytes, promise_all};
+use crate::timing::Until;
 use crate::waiting::Want;
 use nv_arrivals::{Arrival, Outside, Said};
 use nv_calls::{Bytes, Call, MOST_BYTES, MOST_VECTORS, Syscall};
@@ -190,18 +191,19 @@ impl GuestSide {
         }
     }
 
-    fn wants_as(&self, syscall: Syscall, call: &Call) -> Option<Want>
-        requires { syscall ≡ syscall_of call.now.nr }
+    fn wants_as(&self, syscall: Syscall, call: &Call, until: Until) -> Option<Want>
+        requires syscall { syscall ≡ syscall_of call.now.nr }
+        requires until { until ≡ until_of (standing_of self.now) (request call.now) }
         ensures { result ≡ wants_as syscall (standing_of self.now) (request call.now) }
     {
         match syscall {
             Syscall::Ppoll | Syscall::Pselect6 => if self.polls {
-                self.poll_wants(syscall, call, self.until(syscall, call))
+                self.poll_wants(syscall, call, until)
             } else {
                 None
             },
             Syscall::ClockNanosleep => if self.polls {
-                self.sleep_wants(self.until(syscall, call))
+                self.sleep_wants(until)
             } else {
                 None
             },
@@ -213,15 +215,16 @@ impl GuestSide {
         }
     }
 
-    /// What a call waits for; nothing where it doesn't wait.
-    pub fn wants(&self, syscall: Syscall, call: &Call) -> Option<Want>
-        requires { syscall ≡ syscall_of call.now.nr }
+    /// What a call waits for, until this time; nothing where it doesn't wait.
+    pub(crate) fn wants(&self, syscall: Syscall, call: &Call, until: Until) -> Option<Want>
+        requires syscall { syscall ≡ syscall_of call.now.nr }
+        requires until { until ≡ until_of (standing_of self.now) (request call.now) }
         ensures { result ≡ wants (standing_of self.now) (request call.now) }
     {
         if call.bad {
             return None;
         }
-        self.wants_as(syscall, call)
+        self.wants_as(syscall, call, until)
     }
 
     // One more client connects, for which there is memory.
@@ -299,6 +302,7 @@ impl GuestSide {
         &mut self,
         syscall: Syscall,
         call: &Call,
+        until: Until,
         arrivals: &[Arrival],
         vain: bool,
         keeps: bool,
@@ -306,6 +310,7 @@ impl GuestSide {
         outside: &mut O,
     ) -> i32
         requires syscall { syscall ≡ syscall_of call.now.nr }
+        requires until { until ≡ until_of (standing_of self.old) (request call.now) }
         requires takes { CanTakeIn (room_of self.old) (map arrival_of arrivals.now) }
         requires waits { wants (standing_of self.old) (request call.now) ≡ None → length arrivals.now ≡ 0 }
         requires ready { CanAnswer self.old.host.devices.files (request call.now) }
@@ -322,7 +327,6 @@ impl GuestSide {
         ensures kept { keeps ≡ true → IsKept (room_of self.old) → IsKept (room_of self.new) }
         ensures gone { keeps ≡ false → self.new.host.devices.files.gone ≡ length self.new.host.devices.files.state.console }
     {
-        let until = self.until(syscall, call);
         self.arrive_all(arrivals);
         self.tell_end(vain);
         let outcome = self.answer_by(syscall, call, until, out);

@@ -24,8 +24,8 @@ pub struct Polled {
     pub events: u32,
 }
 
-// A byte of a list; 0 past its end.
-fn byte(bytes: &[u8], at: usize) -> u8
+/// A byte of a list; 0 past its end.
+pub(crate) fn byte(bytes: &[u8], at: usize) -> u8
     ensures { result ≡ slice_index bytes.now at }
 {
     match bytes.get(at) {

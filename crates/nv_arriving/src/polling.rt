@@ -1,16 +1,17 @@
 // ppoll and select: what is ready, what ends their wait, and what they answer.
-ghost use Rattle.std.specs.Prelude.{◌≡◌, ◌+◌, ◌*◌, ◌^◌, ◌≤◌, ◌<◌, [], ◌++◌, length, map};
+ghost use Rattle.std.specs.Prelude.{◌≡◌, ◌+◌, ◌*◌, ◌^◌, ◌≤◌, ◌<◌, [], ◌++◌, length, map, is_none};
 ghost use Rattle.std.specs.List.{list_any, range_with_len};
 ghost use Rattle.nv_calls.specs.Answers.{sets_bytes};
 ghost use Rattle.nv_calls.specs.Calls.{request};
 ghost use Rattle.nv_calls.specs.Limits.{MOST_BYTES};
+ghost use Rattle.nv_calls.specs.declared.numbers.Syscall.TheVariants.{Pselect6};
 ghost use Rattle.nv_calls.specs.Numbers.{syscall_of};
 ghost use Rattle.nv_arrivals.specs.Views.{view as arrival_of};
-ghost use Rattle.nv_arriving.specs.Polling.{looked_at, places, connected_events, socket_events, events, told, told_of, is_ready, ready, comes_to, calls_at, comes_in, readies, is_source, has_source, is_at_end, ends_poll, has_bad_count, is_refused, poll_waits, poll_wants, is_closed, has_closed, refuses_closed, idle_answer, poll_ret, told_in, ready_bits, ready_byte, told_bytes, poll_of};
+ghost use Rattle.nv_arriving.specs.Polling.{looked_at, places, connected_events, socket_events, events, told, told_of, is_ready, ready_in, ready, comes_to, calls_at, comes_in, readies, is_source, has_source, is_at_end, ends_poll, has_bad_count, is_refused, poll_waits, poll_wants, is_closed, has_closed, refuses_closed, idle_answer, ready_ret, with_bytes, told_in, ready_bits, ready_byte, told_bytes, poll_of};
 ghost use Rattle.nv_arriving.specs.Views.{standing_of};
 
 use crate::guests::GuestSide;
-use crate::polled::{Polled, count_of, listed_count};
+use crate::polled::{Polled, byte, count_of, listed_count};
 use crate::timing::Until;
 use crate::waiting::Want;
 use arrayvec::ArrayVec;
@@ -90,6 +91,20 @@ fn comes_in(polled: Polled, arrival: &Arrival) -> bool
     }
 }
 
+// Bits of what select tells, and how many of them are 1.
+#[derive(Clone, Copy)]
+struct Bits {
+    bits: u8,
+    ones: u32,
+}
+
+// What a call tells, and in how many places something is told.
+#[derive(Drop)]
+struct Looked {
+    told: ArrayVec<u8, 816>,
+    ready: u32,
+}
+
 // Adds bytes, for which there is room.
 fn append(list: &mut ArrayVec<u8, 816>, bytes: &[u8])
     requires { length list.old.items + length bytes.now ≤ 816 }
@@ -106,8 +121,9 @@ impl GuestSide {
     fn connected_events(&self, i: usize) -> u32
         ensures { result ≡ connected_events (standing_of self.now) i }
     {
-        let over = self.is_over(i);
-        let some = over || self.host.sockets.has_unread(i);
+        let received = self.host.sockets.received(i);
+        let over = self.data_over || received.over;
+        let some = over || received.unread;
         WRITABLE + when(some, READABLE) + when(over, SENT_ALL)
     }
 
@@ -146,17 +162,6 @@ impl GuestSide {
         ensures { result ≡ is_ready (standing_of self.now) (request call.now) place }
     {
         self.told_of(Polled::at(syscall, call, place)) != 0
-    }
-
-    // In how many places something is told.
-    fn ready(&self, syscall: Syscall, call: &Call) -> usize
-        requires { syscall ≡ syscall_of call.now.nr }
-        ensures is { result ≡ ready (standing_of self.now) (request call.now) }
-        ensures few { result ≤ 3072 }
-    {
-        (0..count_of(syscall, call))
-            .filter(|place| self.is_ready(syscall, call, *place))
-            .count()
     }
 
     // ---- what ends its wait
@@ -248,7 +253,7 @@ impl GuestSide {
         ensures { result ≡ poll_waits (standing_of self.now) (request call.now) until }
     {
         !is_refused(syscall, call, until)
-            && (self.ready(syscall, call) == 0 && !self.is_at_end(syscall, call))
+            && (self.look(syscall, call).ready == 0 && !self.is_at_end(syscall, call))
     }
 
     /// What ppoll waits for, or select, up to this time.
@@ -266,9 +271,9 @@ impl GuestSide {
     // ---- the answer
 
     // What is told of so many descriptors of ppoll, from a place in its list on.
-    fn add_told(
+    fn look_in_list(
         &self,
-        list: &mut ArrayVec<u8, 816>,
+        looked: &mut Looked,
         syscall: Syscall,
         call: &Call,
         place: u32,
@@ -276,71 +281,111 @@ impl GuestSide {
     )
         requires syscall { syscall ≡ syscall_of call.now.nr }
         requires few { place + left ≤ 408 }
-        requires room { length list.old.items + 2 * left ≤ 816 }
-        ensures { list.new.items ≡ list.old.items ++ told_in (standing_of self.now) (request call.now) (range_with_len place left) }
+        requires room { length looked.old.told.items + 2 * left ≤ 816 }
+        requires counted { looked.old.ready + left ≤ 3072 }
+        ensures told { looked.new.told.items ≡ looked.old.told.items ++ told_in (standing_of self.now) (request call.now) (range_with_len place left) }
+        ensures ready { looked.new.ready ≡ looked.old.ready + ready_in (standing_of self.now) (request call.now) (range_with_len place left) }
+        ensures counted { looked.new.ready ≤ looked.old.ready + left }
     {
         if left == 0 {
             return;
         }
-        let [low, high, _, _] = self.told_of(Polled::at(syscall, call, place)).to_le_bytes();
-        append(list, &[low, high]);
-        self.add_told(list, syscall, call, place + 1, left - 1);
+        let told = self.told_of(Polled::at(syscall, call, place));
+        let [low, high, _, _] = told.to_le_bytes();
+        append(&mut looked.told, &[low, high]);
+        looked.ready += u32::from(told != 0);
+        self.look_in_list(looked, syscall, call, place + 1, left - 1);
     }
 
     // So many bits of the sets of select, from a place on.
-    fn ready_bits(&self, syscall: Syscall, call: &Call, place: u32, left: u32) -> u8
+    fn ready_bits(&self, syscall: Syscall, call: &Call, place: u32, left: u32) -> Bits
         requires syscall { syscall ≡ syscall_of call.now.nr }
         requires few { left ≤ 8 }
         requires fits { place + left ≤ 3072 }
-        ensures is { result ≡ ready_bits (standing_of self.now) (request call.now) place left }
-        ensures below { result < 2 ^ left }
+        ensures bits { result.bits ≡ ready_bits (standing_of self.now) (request call.now) place left }
+        ensures below { result.bits < 2 ^ left }
+        ensures ones { result.ones ≡ ready_in (standing_of self.now) (request call.now) (range_with_len place left) }
+        ensures few { result.ones ≤ left }
     {
         if left == 0 {
-            return 0;
+            return Bits { bits: 0, ones: 0 };
         }
-        let first = u8::from(self.is_ready(syscall, call, place));
-        first + 2 * self.ready_bits(syscall, call, place + 1, left - 1)
+        let first = self.is_ready(syscall, call, place);
+        let rest = self.ready_bits(syscall, call, place + 1, left - 1);
+        Bits {
+            bits: u8::from(first) + 2 * rest.bits,
+            ones: u32::from(first) + rest.ones,
+        }
+    }
+
+    // The byte of the sets with this number. Most have no bit where there are many descriptors.
+    fn ready_byte(&self, call: &Call, at: u32) -> Bits
+        requires selects { syscall_of call.now.nr ≡ Pselect6 }
+        requires fits { 8 * at + 8 ≤ 3072 }
+        ensures bits { result.bits ≡ ready_byte (standing_of self.now) (request call.now) at }
+        ensures ones { result.ones ≡ ready_in (standing_of self.now) (request call.now) (range_with_len (8 * at) 8) }
+        ensures few { result.ones ≤ 8 }
+    {
+        if byte(call.payload.as_slice(), at as usize) == 0 {
+            return Bits { bits: 0, ones: 0 };
+        }
+        self.ready_bits(Syscall::Pselect6, call, 8 * at, 8)
     }
 
     // The sets of select, with those that are ready alone.
-    fn add_sets(&self, list: &mut ArrayVec<u8, 816>, syscall: Syscall, call: &Call)
-        requires syscall { syscall ≡ syscall_of call.now.nr }
-        requires empty { list.old.items ≡ [] }
-        ensures { list.new.items ≡ map (ready_byte (standing_of self.now) (request call.now)) (range_with_len 0 (sets_bytes call.now.args)) }
+    fn look_in_sets(&self, looked: &mut Looked, call: &Call)
+        requires selects { syscall_of call.now.nr ≡ Pselect6 }
+        requires empty { looked.old.told.items ≡ [] }
+        requires none { looked.old.ready ≡ 0 }
+        ensures told { looked.new.told.items ≡ map (ready_byte (standing_of self.now) (request call.now)) (range_with_len 0 (sets_bytes call.now.args)) }
+        ensures ready { looked.new.ready ≡ ready_in (standing_of self.now) (request call.now) (range_with_len 0 (8 * sets_bytes call.now.args)) }
+        ensures few { looked.new.ready ≤ 3072 }
     {
         for at in 0..sets_bytes(&call.args) {
-            append(list, &[self.ready_bits(syscall, call, 8 * at, 8)]);
+            let found = self.ready_byte(call, at);
+            append(&mut looked.told, &[found.bits]);
+            looked.ready += found.ones;
         }
     }
 
-    // What is told of all that a call looks at.
-    fn add_all(&self, list: &mut ArrayVec<u8, 816>, syscall: Syscall, call: &Call)
+    // What is told of all that a call looks at, and in how many places something is.
+    fn look(&self, syscall: Syscall, call: &Call) -> Looked
         requires syscall { syscall ≡ syscall_of call.now.nr }
-        requires empty { list.old.items ≡ [] }
-        ensures { list.new.items ≡ told_bytes (standing_of self.now) (request call.now) }
+        ensures told { result.told.items ≡ told_bytes (standing_of self.now) (request call.now) }
+        ensures ready { result.ready ≡ ready (standing_of self.now) (request call.now) }
+        ensures few { result.ready ≤ 3072 }
     {
+        let mut looked = Looked {
+            told: ArrayVec::new(),
+            ready: 0,
+        };
         match syscall {
-            Syscall::Pselect6 => self.add_sets(list, syscall, call),
-            _ => self.add_told(list, syscall, call, 0, listed_count(call)),
+            Syscall::Pselect6 => self.look_in_sets(&mut looked, call),
+            _ => self.look_in_list(&mut looked, syscall, call, 0, listed_count(call)),
+        }
+        looked
+    }
+
+    // Whether a descriptor isn't open.
+    fn is_not_open(&self, fd: u32) -> bool
+        ensures { result ≡ is_none (events (standing_of self.now) fd) }
+    {
+        match self.host.sockets.at(fd) {
+            Some(_) => false,
+            None => self
+                .host
+                .devices
+                .files
+                .events(fd, self.input_over)
+                .is_none(),
         }
     }
 
-    fn tell(&self, syscall: Syscall, call: &Call, out: &mut Bytes)
-        requires syscall { syscall ≡ syscall_of call.now.nr }
-        requires capacity { MOST_BYTES ≤ out.old.capacity }
-        ensures bytes { out.new.bytes ≡ told_bytes (standing_of self.now) (request call.now) }
-        ensures capacity { out.new.capacity ≡ out.old.capacity }
-    {
-        let mut list = ArrayVec::<u8, 816>::new();
-        self.add_all(&mut list, syscall, call);
-        out.set(&list);
-    }
-
-    // Whether a descriptor that isn't passed over isn't open.
+    // So, where it isn't passed over.
     fn is_closed(&self, polled: Polled) -> bool
         ensures { result ≡ is_closed (standing_of self.now) polled }
     {
-        !polled.is_passed() && self.events(polled.fd).is_none()
+        !polled.is_passed() && self.is_not_open(polled.fd)
     }
 
     // Whether the call looks at such a one.
@@ -380,20 +425,24 @@ impl GuestSide {
         }
     }
 
-    // The result, but for what refuses a call.
-    fn poll_ret(&self, syscall: Syscall, call: &Call, until: Until) -> i32
-        requires { syscall ≡ syscall_of call.now.nr }
-        ensures { result ≡ poll_ret (standing_of self.now) (request call.now) until }
+    // The result where nothing refuses the call, with what it tells. An error tells nothing.
+    fn tell(&self, syscall: Syscall, call: &Call, until: Until, out: &mut Bytes) -> i32
+        requires syscall { syscall ≡ syscall_of call.now.nr }
+        requires empty { out.old.bytes ≡ [] }
+        requires capacity { MOST_BYTES ≤ out.old.capacity }
+        ensures answer { with_bytes (standing_of self.now) (request call.now) (ready_ret (standing_of self.now) (request call.now) until) ≡ (result, out.new.bytes) }
+        ensures capacity { out.new.capacity ≡ out.old.capacity }
     {
-        if self.refuses_closed(syscall, call) {
-            return EBADF;
-        }
-        let ready = self.ready(syscall, call);
-        if ready != 0 {
-            ready as i32
+        let looked = self.look(syscall, call);
+        let ret = if looked.ready != 0 {
+            looked.ready as i32
         } else {
             self.idle_answer(syscall, call, until)
+        };
+        if ret >= 0 {
+            out.set(&looked.told);
         }
+        ret
     }
 
     /// ppoll(2) and select(2) whose wait is over at this time.
@@ -407,10 +456,9 @@ impl GuestSide {
         if is_refused(syscall, call, until) {
             return EINVAL;
         }
-        let ret = self.poll_ret(syscall, call, until);
-        if ret >= 0 {
-            self.tell(syscall, call, out);
+        if self.refuses_closed(syscall, call) {
+            return EBADF;
         }
-        ret
+        self.tell(syscall, call, until, out)
     }
 }

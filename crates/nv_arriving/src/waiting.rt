@@ -27,10 +27,13 @@ pub enum Want {
     Ready(Until),
 }
 
-/// What a call takes in of the arrivals that have come.
+/// What is found of a call once, when memory is taken for it: which it is, and what it takes in of the arrivals that have come.
 #[derive(Clone, Copy)]
 pub struct Intake {
-    /// How many, the first ones: those up to and with the one that ends its wait, or all.
+    pub syscall: Syscall,
+    /// When its wait is over.
+    pub until: Until,
+    /// How many it takes in, the first ones: those up to and with the one that ends its wait, or all.
     pub count: usize,
     /// The call waits, and none of them ends its wait.
     pub vain: bool,
@@ -38,10 +41,12 @@ pub struct Intake {
 
 impl Intake {
     /// A call that doesn't wait takes in nothing.
-    pub(crate) fn nothing() -> Intake
-        ensures { result ≡ record { count = 0; vain = false } }
+    pub(crate) fn nothing(syscall: Syscall, until: Until) -> Intake
+        ensures { result ≡ record { syscall = syscall; until = until; count = 0; vain = false } }
     {
         Intake {
+            syscall,
+            until,
             count: 0,
             vain: false,
         }
@@ -99,24 +104,31 @@ impl GuestSide {
             .position(|arrival| self.ends(syscall, call, want, arrival))
     }
 
-    /// What a call takes in that waits for this, where these have come.
+    /// What a call takes in that waits for this, where these have come; its wait is over at this time.
     pub(crate) fn intake(
         &self,
         syscall: Syscall,
         call: &Call,
+        over_at: Until,
         want: Want,
         arrivals: &[Arrival],
     ) -> Intake
         requires { syscall ≡ syscall_of call.now.nr }
+        ensures syscall { result.syscall ≡ syscall }
+        ensures until { result.until ≡ over_at }
         ensures count { result.count ≡ until (ends (standing_of self.now) (request call.now) want) (map arrival_of arrivals.now) }
         ensures vain { result.vain ≡ not (any_ends (ends (standing_of self.now) (request call.now) want) (map arrival_of arrivals.now)) }
     {
         match self.first_end(syscall, call, want, arrivals) {
             Some(place) => Intake {
+                syscall,
+                until: over_at,
                 count: place + 1,
                 vain: false,
             },
             None => Intake {
+                syscall,
+                until: over_at,
                 count: arrivals.len(),
                 vain: true,
             },

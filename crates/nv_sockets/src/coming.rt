@@ -1,5 +1,5 @@
 // Clients that connect while a run goes on, and what they send.
-ghost use Rattle.std.specs.Prelude.{◌≡◌, ◌≢◌, ◌≤◌, ◌<◌, ◌+◌, ℕ, true, false, Some, [], ◌∷◌, ◌++◌, length, drop, is_some, option_map, vec_len, vec_capacity, OnOk};
+ghost use Rattle.std.specs.Prelude.{◌≡◌, ◌≢◌, ◌≤◌, ◌<◌, ◌+◌, ◌==◌, ℕ, true, false, not, Some, [], ◌∷◌, ◌++◌, length, drop, is_some, option_map, vec_len, vec_capacity, OnOk};
 ghost use Rattle.nv_sockets.specs.Sockets.{unread_in, unread_of, has_unread, over_in, is_over, is_going, with_inbox};
 ghost use Rattle.nv_sockets.specs.Coming.{connected, with_data, ended, came_over, HasInput, HasPlaces};
 ghost use Rattle.nv_sockets.specs.Inboxes.{inbox_in, promised_in, with_more, with_less, with_end};
@@ -8,6 +8,13 @@ use crate::inbox::Inbox;
 use crate::sockets::{Sockets, fresh};
 use crate::waiting::Waiting;
 use std::alloc::AllocError;
+
+/// What has come over a connection: some of it isn't read yet; nothing more comes.
+#[derive(Clone, Copy)]
+pub struct Received {
+    pub unread: bool,
+    pub over: bool,
+}
 
 // One more, for which there is memory.
 fn add_waiting(waiting: &mut Vec<Waiting>, one: Waiting)
@@ -92,6 +99,16 @@ fn over_in(inbox: &Option<Inbox>) -> bool
     }
 }
 
+fn received_in(inbox: &Option<Inbox>) -> Received
+    ensures unread { result.unread ≡ not (length (unread_in (inbox_in inbox.now)) == 0) }
+    ensures over { result.over ≡ over_in (inbox_in inbox.now) }
+{
+    Received {
+        unread: unread_in(inbox).len() != 0,
+        over: over_in(inbox),
+    }
+}
+
 impl Sockets {
     /// What has come over a connection and isn't read yet; nothing where it is closed.
     pub fn unread(&self, i: usize) -> &[u8]
@@ -117,6 +134,20 @@ impl Sockets {
         match self.place(i) {
             Some(p) => over_in(&self.connection(p, i).inbox),
             None => true,
+        }
+    }
+
+    /// Both, for who asks for both of many connections.
+    pub fn received(&self, i: usize) -> Received
+        ensures unread { result.unread ≡ has_unread self.now.net i }
+        ensures over { result.over ≡ is_over self.now.net i }
+    {
+        match self.place(i) {
+            Some(p) => received_in(&self.connection(p, i).inbox),
+            None => Received {
+                unread: false,
+                over: true,
+            },
         }
     }
 

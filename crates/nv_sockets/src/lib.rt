@@ -1,5 +1,5 @@
 //! The kernel of a run: nv_kernel's, and sockets over the connections that a script states.
-//! Types: `Connection` with its `Inbox`, `SocketKernel`; below it `Host`, `Outcome` and `Did` (what a call did outside), `Sockets`, `Socket` and `Waiting`, on which kernels stand.
+//! Types: `Connection` with its `Inbox`, `SocketKernel`; below it `Host`, `Outcome` and `Did` (what a call did outside), `Sockets`, `Socket`, `Received` and `Waiting`, on which kernels stand.
 //! Proved: it meets the laws of `SyscallKernel` with the definition of serving with sockets; `write_connections` writes
 //! just the text of what each connection was sent; a connection that the guests have closed may be let go, and no other.
 #![tactic(auto)]
@@ -23,6 +23,7 @@ mod waiting;
 mod writing;
 
 pub use binding::are_flags;
+pub use coming::Received;
 pub use connection::Connection;
 pub use did::{Did, Outcome};
 pub use host::Host;

@@ -33,7 +33,8 @@ module _ (g : Over) (c : After-intake-found g) where
   vain = c.intake-found.ensures.vain ∙ ap (λ z. not (any_ends (ends here call c.in-Some.want) z)) left_is
 
   found : c.intake-found.result ≡ intake_of record { here = here; rest = left } call
-  found = intake_is here call c.in-Some.want left c.intake-found.result.count c.intake-found.result.vain (sym c.wants.ensures ∙ c.in-Some.is)
+  found = intake_is here call c.in-Some.want left c.intake-found.result.syscall c.intake-found.result.until c.intake-found.result.count c.intake-found.result.vain
+      (c.intake-found.ensures.syscall ∙ c.requires.syscall) (c.intake-found.ensures.until ∙ c.requires.until) (sym c.wants.ensures ∙ c.in-Some.is)
       (c.intake-found.ensures.count ∙ ap (until (ends here call c.in-Some.want)) left_is) vain
 
 pub returns-then-over-clause-intake : goal.returns-then-over-clause-intake
@@ -74,6 +75,6 @@ returns-clause-intake g c =
     let none : any_ends (ends (here g at) (call g at) c.in-Some.want) (left g at) ≡ false = not_back _ (sym (vain g at) ∙ is_back c.intake-found.result.vain c.if-not-found.false) in
     let all = heard_until (ends (here g at) (call g at) c.in-Some.want) c.args.used before now few c.hear.ensures.grew none c.hear.ensures.until in
     let any = heard_any (ends (here g at) (call g at) c.in-Some.want) c.args.used before now few c.hear.ensures.grew none in
-    intake_is (here g at) (call g at) c.in-Some.want (drop c.args.used now) _ _ (sym c.wants.ensures ∙ c.in-Some.is)
+    intake_is (here g at) (call g at) c.in-Some.want (drop c.args.used now) _ _ _ _ c.requires.syscall c.requires.until (sym c.wants.ensures ∙ c.in-Some.is)
     (omega (arith, all, length-drop c.args.used now, length-map c.hear.new.came.items arrival_of))
     (twice_not _ _ (any ∙ c.in_ok-over.ensures.ended))

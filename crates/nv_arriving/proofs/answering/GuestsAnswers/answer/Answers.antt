@@ -2,6 +2,7 @@ use Rattle.std.proofs.Common.{rules, to_z, of_z, w32, ℤ, ◌≡◌, ◌∙◌,
 use Rattle.std.proofs.lemmas.List.{length-take, length-drop}
 use Rattle.nv_calls.specs.Answer.{Answer}
 use Rattle.nv_calls.specs.Calls.{Request, request}
+use Rattle.nv_calls.specs.Numbers.{syscall_of}
 use Rattle.nv_kernel.specs.Answering.{IsAnswer}
 use Rattle.nv_arrivals.specs.declared.arrival.Arrival as code
 use Rattle.nv_arrivals.specs.Arrivals.{Arrival}
@@ -160,3 +161,11 @@ invariant_of-self g c = (
   subst (λ (z : List code.Arrival). c.self.inside.used + c.self.inside.intake.count ≤ length z) (sym c.pass.ensures.items) (inside g (goal.at.invariant_of-self g c).After-pass),
   c.pass.ensures.gone,
 )
+
+pub answer-ret-requires-clause-syscall : goal.answer-ret-requires-clause-syscall
+answer-ret-requires-clause-syscall g c =
+    subst (λ (k : Coming g.row.O.Denot). k.intake.syscall ≡ syscall_of c.args.call.now.nr) (sym c.self.view_is) (ap (λ (z : Intake). z.syscall) c.requires.ready.found)
+
+pub answer-ret-requires-clause-until : goal.answer-ret-requires-clause-until
+answer-ret-requires-clause-until g c =
+    subst (λ (k : Coming g.row.O.Denot). k.intake.until ≡ until_of k.stage.here (request c.args.call.now)) (sym c.self.view_is) (ap (λ (z : Intake). z.until) c.requires.ready.found)

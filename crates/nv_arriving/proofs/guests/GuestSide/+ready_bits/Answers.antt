@@ -13,5 +13,5 @@ bit_few n false h = omega (arith, h)
 
 pub returns-clause-below : goal.returns-clause-below
 returns-clause-below t c =
-    let bit : c.from-first.result ≤ 1 = bit_few _ _ c.from-first.ensures in
-    one_more c.from-first.result c.ready_bits.result c.args.left bit c.ready_bits.ensures.below c.if-left-eq0.false
+    let bit : c.from.result ≤ 1 = bit_few _ _ c.from.ensures in
+    one_more c.from.result c.ready_bits-rest.result.bits c.args.left bit c.ready_bits-rest.ensures.below c.if-left-eq0.false

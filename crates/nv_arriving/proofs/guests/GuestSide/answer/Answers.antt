@@ -50,7 +50,7 @@ pub returns-clause-answer : goal.returns-clause-answer
 returns-clause-answer g c =
     let is = here g (goal.at.returns-clause-answer g c).After-tell_end in
     let back : to_z w32 (of_z w32 c.answer_by-outcome.result.ret) ≡ c.answer_by-outcome.result.ret = search rules in
-    (λ i. serve_by (sym is i) (request c.args.call.now) (sym c.until-until.ensures i)) ∙ c.answer_by-outcome.ensures.answer
+    (λ i. serve_by (sym is i) (request c.args.call.now) (sym c.requires.until i)) ∙ c.answer_by-outcome.ensures.answer
     ∙ (λ i. record { state = sym c.let_go_unless.ensures.standing i; ret = sym back i; payload = c.answer_by-outcome.new.out.bytes })
 
 pub returns-clause-said : goal.returns-clause-said
