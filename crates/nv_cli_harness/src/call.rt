@@ -19,6 +19,9 @@ const TIMING: [(&str, &str); 3] = [
     ("--ring", "--ring=2"),
 ];
 
+// The input of a live run, beside what it says and its transcript.
+type Input = MemorySource<MemorySink, MemorySink>;
+
 /// What a call finds outside: named files, the reads that fail, and a sink that takes `most` bytes a call and fails at these;
 /// and for a live run what each read of its input gives, and the writes of its output and of its transcript that fail.
 #[derive(Clone, Copy)]
@@ -86,7 +89,7 @@ fn files_of(alloc: Global, files: &[(&str, &[u8])]) -> Result<Vec<File>, AllocEr
     Ok(owned)
 }
 
-fn reads_of(alloc: Global, reads: &[&[u8]]) -> Result<MemorySource, AllocError> {
+fn reads_of(alloc: Global, reads: &[&[u8]]) -> Result<Input, AllocError> {
     let mut owned = Vec::new(alloc);
     for bytes in reads {
         owned.push(bytes.to_vec(alloc)?)?;
@@ -98,7 +101,7 @@ fn reads_of(alloc: Global, reads: &[&[u8]]) -> Result<MemorySource, AllocError> 
 fn streams_of(
     alloc: Global,
     outside: Outside,
-) -> Result<Streams<MemorySource, MemorySink, MemorySink>, AllocError>
+) -> Result<Streams<Input, MemorySink, MemorySink>, AllocError>
     requires { 0 < outside.most }
 {
     let says = outside.failing_says.to_vec(alloc)?;
@@ -113,7 +116,7 @@ fn streams_of(
 // What stands in the output and in the transcript of a live run.
 fn told_by(
     alloc: Global,
-    left: &Left<MemorySource, MemorySink, MemorySink>,
+    left: &Left<Input, MemorySink, MemorySink>,
 ) -> Result<(Vec<u8>, Vec<u8>), AllocError> {
     let (streams, _) = left;
     Ok((
