@@ -9,7 +9,7 @@
 - Crates: crates.txt has each after those that it uses, with the first sentence of its head; docs/inside/ARCHITECTURE.md has its layers as a picture. The head of each that
   isn't of tests or benches says what is proved of it, since docs/PROVED.md leaves that to the heads. A report's line is found in the code as ARCHITECTURE says.
 - The walk: each function of ARCHITECTURE's tables of a live request is in its file, and the nearest row above it whose depth is one less calls it.
-- Steps: each step that nv_room takes on its table is of a kind that nv_progress counts, as docs/PROVED.md says.
+- Steps: each step that nv_room takes on its table is of a kind that nv_laws counts, as docs/PROVED.md says.
 - Pages: README.md lists those of docs/ and docs/inside/. The ones that a user reads first have no line of more than 200 characters, the others none of more than 240; those of
   docs/inside/ and the list of changes none of more than 120, but in tables.
 - Plain English: the pages of PLAIN have no line of more than 120 characters but those of tables, and few of the words of CONTRIBUTING.md's list in their prose.
@@ -111,7 +111,7 @@ OPTION_LIMITS = (
 # layers of crates.txt that stand beside the program
 BESIDE = {"tests", "benches"}
 # crates whose contracts are laws alone, as their heads say
-LAWS_ALONE = {"nv_served", "nv_progress"}
+LAWS_ALONE = {"nv_served"}
 # what stands on a page for another program's option
 OTHERS = {"help", "version", "anew", "program"}
 
@@ -433,7 +433,7 @@ def page_limits(wrong):
 
 
 def room_steps(wrong):
-    """Each step that a room's seats take on its table has one of nv_room's plays, and nv_progress has each play as a kind of step that the room allows; no other crate steps on it."""
+    """Each step that a room's seats take on its table has one of nv_room's plays, and nv_laws has each play as a kind of step that the room allows; no other crate steps on it."""
     plays = dict(re.findall(r"Play<[^{]*for (\w+)(?:<\w+>)? \{\s*ghost then = \{ (\w+)", read("crates/nv_room/src/plays.rt")))
     taken = set()
     for path in sorted(glob.glob(f"{ROOT}/crates/*/src/*.rt")):
@@ -445,15 +445,15 @@ def room_steps(wrong):
                 wrong.append(f"{path} steps on a table: {call}")
             elif call not in BETWEEN_STEPS and play not in plays:
                 wrong.append(f"{path}: {call} has no play of crates/nv_room/src/plays.rt")
-    law = read("crates/nv_progress/specs/Plays.antt")
+    law = read("crates/nv_laws/specs/Plays.antt")
     named = {new: old for old, new in re.findall(r"(\w+) as (\w+)", law)}
     kinds = {kind: named.get(play, play) for kind, play in re.findall(r"(?m)^  Plays \(?(\w+)[^=\n]*= .*?(\w+) (?:hist beg )?st m\b", law)}
-    allowed = set(re.findall(r"MayDo [^\n]*\(λ \w+\. (\w+)", read("crates/nv_progress/src/laws.rt")))
+    allowed = set(re.findall(r"MayDo [^\n]*\(λ \w+\. (\w+)", read("crates/nv_laws/src/progress.rt")))
     wrong += [f"crates/nv_room/src: no step has the play {it}" for it in sorted(set(plays) - taken)]
-    wrong += [f"crates/nv_progress/specs/Plays.antt has no kind of the play {name}" for name, then in sorted(plays.items()) if list(kinds.values()).count(then) != 1]
-    wrong += [f"crates/nv_progress/src/laws.rt doesn't say when the room allows {it}" for it in sorted(set(kinds) - allowed)]
+    wrong += [f"crates/nv_laws/specs/Plays.antt has no kind of the play {name}" for name, then in sorted(plays.items()) if list(kinds.values()).count(then) != 1]
+    wrong += [f"crates/nv_laws/src/progress.rt doesn't say when the room allows {it}" for it in sorted(set(kinds) - allowed)]
     if not plays or len(kinds) != len(plays):
-        wrong.append(f"crates/nv_room/src/plays.rt has {len(plays)} plays, crates/nv_progress/specs/Plays.antt {len(kinds)} kinds")
+        wrong.append(f"crates/nv_room/src/plays.rt has {len(plays)} plays, crates/nv_laws/specs/Plays.antt {len(kinds)} kinds")
 
 
 def cures(wrong):

@@ -8,9 +8,9 @@ use Rattle.nv_elf.specs.Elf.{Executable, Accepted}
 use Rattle.nv_gen.specs.Made.{numbers_of}
 use Rattle.nv_gen.specs.Measures.{file_read_as}
 use Rattle.nv_gen.specs.Programs.{programs}
-use Rattle.nv_gen_laws.specs.Texts.{bare}
-use Rattle.nv_gen_laws.specs.Versions.{program_at, FitsTheDefault}
-use Rattle.nv_gen_laws.proofs.Listing.{programs_listed, programs_counted}
+use Rattle.nv_gen.specs.Texts.{bare}
+use Rattle.nv_gen.specs.Versions.{program_at, FitsTheDefault}
+use Rattle.nv_gen.proofs.Listing.{programs_listed, programs_counted}
 use Rattle.nv_machine.specs.Guest.{Machine}
 use Rattle.nv_bpf.specs.declared.op.Op.{Op}
 use Rattle.nv_command.specs.Words.{Limits, usual}

@@ -1,7 +1,7 @@
 // The large run that a number makes.
 ghost use Rattle.std.specs.Prelude.{◌≡◌, ◌≤◌, ◌<◌, All, IfOk, IfErr, IsTrue, length};
 ghost use Rattle.nv_gen.specs.Made.{script, rules};
-ghost use Rattle.nv_gen_laws.specs.Texts.{bare, asks_beside_writes};
+ghost use Rattle.nv_gen.specs.Texts.{bare, asks_beside_writes};
 ghost use Rattle.nv_replay.specs.Account.{AreFresh};
 ghost use Rattle.nv_replay.specs.Version.{IsFresh};
 ghost use Rattle.nv_script.specs.Scripts.{is_script};
@@ -17,7 +17,7 @@ use crate::refusal::{Place, Refusal};
 use nv_arriving::ScriptedKernel;
 use nv_bpf::Filter;
 use nv_command::Limits;
-use nv_gen_laws::{rules_are_read, script_is_read, versions_fit_the_default_memory};
+use nv_gen::{rules_are_read, script_is_read, versions_fit_the_default_memory};
 use nv_replay::Version;
 use nv_script::Script;
 use std::alloc::Global;

@@ -1,3 +1,13 @@
 pub mod Fitting
 pub mod Appending
 pub mod Files
+pub mod Steps
+pub mod Calling
+pub mod Courses
+pub mod Carrying
+pub mod Standing
+pub mod Sizes
+pub mod Loading
+pub mod Runs
+pub mod Reading
+pub mod Listing

@@ -10,3 +10,16 @@ pub mod Constants
 pub mod LaterCalls
 pub mod Console
 pub mod Connections
+pub mod Lists
+pub mod Stuck
+pub mod Falling
+mod Played
+mod Lasting
+mod Waiting
+mod LeadWaiting
+mod Windows
+mod Kept
+mod Sums
+mod Ending
+mod Rooms
+mod Comings

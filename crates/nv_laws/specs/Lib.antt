@@ -2,3 +2,8 @@ pub mod Tables
 pub mod Calls
 pub mod Refused
 pub mod Sayings
+pub mod GetsOn
+pub mod Steps
+pub mod Plays
+pub mod Traces
+pub mod Runs

@@ -3,7 +3,7 @@ use Rattle.std.proofs.lemmas.Result.{IfOk-weaker}
 use Rattle.nv_guest.specs.Guest.{machine_of}
 use Rattle.nv_command.specs.Words.{Limits, usual}
 use Rattle.nv_script.specs.Scripts.{Setup}
-use Rattle.nv_gen_laws.specs.Texts.{bare}
+use Rattle.nv_gen.specs.Texts.{bare}
 use Rattle.nv_driver.specs.Account.{process_begun}
 use Rattle.nv_driver.specs.Prepared.{Loads, version_from}
 use Rattle.nv_driver.proofs.generating.read_version.Goals as goal

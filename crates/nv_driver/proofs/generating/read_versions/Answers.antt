@@ -1,5 +1,5 @@
 use Rattle.std.proofs.Common.{◌≡◌, subst, List, ℕ, length, take, arith}
-use Rattle.nv_gen_laws.specs.Texts.{bare}
+use Rattle.nv_gen.specs.Texts.{bare}
 use Rattle.nv_driver.specs.inner.Generated.{IsFrom}
 use Rattle.nv_driver.proofs.Loaded.{made_next, length-made}
 use Rattle.nv_driver.proofs.Loading.{fresh_next, length-prefix}

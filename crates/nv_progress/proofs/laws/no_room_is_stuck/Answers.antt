@@ -1,5 +1,0 @@
-use Rattle.nv_progress.proofs.Stuck.{not_stuck}
-use Rattle.nv_progress.proofs.laws.no_room_is_stuck.Goals as goal
-
-pub returns : goal.returns
-returns g c = λ p s r all some. not_stuck _ _ p s r all some

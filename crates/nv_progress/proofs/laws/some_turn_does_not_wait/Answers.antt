@@ -1,5 +1,0 @@
-use Rattle.nv_progress.proofs.Windows.{some_need_not}
-use Rattle.nv_progress.proofs.laws.some_turn_does_not_wait.Goals as goal
-
-pub returns : goal.returns
-returns g c = λ p s r all stays. some_need_not _ _ p s r all stays
