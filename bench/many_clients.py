@@ -4,7 +4,7 @@
     bench/many_clients.py [--program PATH] [--turns N] [answers] [failovers]
 
 Without a part both are taken. PATH is crates/varan/out/varan where it isn't given (build it first: `rt run` in crates/varan). The service is examples/live/loop.c, one
-loop over poll, behind `varan-listen --idle 0`, with 1, 2 and 8 equal versions, and the same loop over select and over epoll. Beside it are the guests over poll and
+loop over poll, behind `varan-listen --idle 0`, with 1, 2 and 8 equal versions, the same loop over select, and over epoll with 1 and 8. Beside it are the guests over poll and
 select under qemu-riscv32 (that over epoll can't have its port again at once there: SO_REUSEADDR isn't Linux's over its library), and varan-listen before a program
 that sends back what it gets (live_answers.c). All is taken in one run, on 127.0.0.1, each case with and without the silent ones, in N
 turns, 5 by default, every other one in reverse. It needs qemu-riscv32 (Debian: qemu-user) and cc, and takes some minutes.
@@ -298,8 +298,8 @@ def answers(commands, turns, folder):
         "with them / without, a second": [of_the_turns(it, (2,), ".2f") for it in beside],
     })
     one, eight = f"{COUNTS[0]} version", f"{COUNTS[-1]} versions"
-    versions = [ratios(found[eight, silent], found[one, silent]) for silent in (0, SILENT)]
-    table(f"{eight} / {one}", ["without silent clients", f"beside {SILENT}"], {
+    versions = [ratios(found[eight + kind, silent], found[one + kind, silent]) for kind in ("", EPOLL) for silent in (0, SILENT)]
+    table(f"{eight} / {one}", [f"{beside}{kind}" for kind in ("", EPOLL) for beside in ("without silent clients", f"beside {SILENT}")], {
         "an answer: p50, p99": [of_the_turns(it, (0, 1), ".2f") for it in versions],
         "answers a second": [of_the_turns(it, (2,), ".2f") for it in versions],
     })
@@ -366,7 +366,7 @@ def main():
         commands = {f"{QEMU}{kind}": ["qemu-riscv32", BUILT / loop, str(PATIENCE)] for kind, loop in under_qemu.items()} | {ALONE: [folder / "answers"]}
         commands |= {f"{k} version{'s' if k > 1 else ''}": [*serve, *[BUILT / "loop_1"] * k] for k in COUNTS}
         commands["1 version, select"] = [*serve, BUILT / LOOPS[", select"]]
-        commands["1 version, epoll"] = [*serve, *MEMORY, BUILT / LOOPS[EPOLL]]
+        commands |= {f"{k} version{'s' if k > 1 else ''}{EPOLL}": [*serve, *MEMORY, *[BUILT / LOOPS[EPOLL]] * k] for k in (COUNTS[0], COUNTS[-1])}
         if not can_listen(PORT):
             print(f"qemu is left out: somebody listens at port {PORT}")
             commands = {name: words for name, words in commands.items() if not name.startswith(QEMU)}

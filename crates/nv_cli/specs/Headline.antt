@@ -116,7 +116,7 @@ use Rattle.nv_arriving.specs.Doings.{of_bytes, socket_by, accepted_as, accepted,
 use Rattle.nv_arriving.specs.Flags.{NONBLOCK, is_nonblocking_by, is_nonblocking, flags_by, flags, flags_set, with_flags, control_open, control_by, control_of}
 use Rattle.nv_arriving.specs.Kernel.{after as nv_arriving_after}
 use Rattle.nv_arriving.specs.NonBlocking.{each_waits, is_nonblocking_socket, with_socket as nv_arriving_with_socket}
-use Rattle.nv_arriving.specs.Polling.{polled_at, looked_as, looked_at, listed_count, count_as, places, is_passed as nv_arriving_is_passed, asks as nv_arriving_asks, SENT_ALL, NOT_OPEN, connected_events, socket_events, events_by, events, told, told_of as nv_arriving_told_of, is_ready, ready, comes_to, calls_at, comes_in, readies_by, readies, is_source_by, is_source, has_source, is_at_end, ends_poll, is_bad, has_bad_count, is_refused, poll_waits, poll_wants, past_answer, idle_answer, is_closed, has_closed, refuses_closed, ready_ret, poll_ret, told_in, ready_bits, ready_byte, told_as, told_bytes, with_bytes as nv_arriving_with_bytes, poll_of}
+use Rattle.nv_arriving.specs.Polling.{polled_at, looked_as, looked_at, listed_count, count_as, places, is_passed as nv_arriving_is_passed, asks as nv_arriving_asks, SENT_ALL, NOT_OPEN, connected_events, socket_events, events_by, events, told, told_of as nv_arriving_told_of, is_ready, ready_in, ready, comes_to, calls_at, comes_in, readies_by, readies, is_source_by, is_source, has_source, is_at_end, ends_poll, is_bad, has_bad_count, is_refused, poll_waits, poll_wants, past_answer, idle_answer, is_closed, has_closed, refuses_closed, ready_ret, poll_ret, told_in, ready_bits, ready_byte, told_as, told_bytes, with_bytes as nv_arriving_with_bytes, poll_of}
 use Rattle.nv_arriving.specs.Scripted.{start_from, stage_from}
 use Rattle.nv_arriving.specs.Selecting.{SPECIAL, set_events, set_bits, has_bit, PASSED, selected_at}
 use Rattle.nv_arriving.specs.Standings.{Standing, is_over as nv_arriving_is_over, with_state as nv_arriving_with_state}
