@@ -1,11 +1,15 @@
 #!/usr/bin/env python3
 """How many calls a second the program serves, call by call.
 
+    bench/call_speed.py [--program PATH] [--beside PATH]
+
 Each guest makes one call again and again and exits. The built program runs it with 30,000 and with 120,000 calls; the report goes to
 /dev/null. The table has the median of five runs, the calls a second, and the time of a call in the longer run against the shorter one: it stays
 near 1 where a call's cost doesn't grow with the calls before it. `read` and `lseek` are on a file of 1 MiB and on one of 4 KiB. The start of the program
-with a guest that makes no call is taken off. Build the program first: `cd crates/varan && rt run -- run --script data/s data/v`.
+with a guest that makes no call is taken off. PATH is crates/varan/out/varan where it isn't given: `cd crates/varan && rt run -- run --script data/s data/v` builds it.
+With --beside another program takes turns with it, run by run, and the last column has the time of a call by the first in parts of its time by the other.
 """
+import argparse
 import os
 import statistics
 import subprocess
@@ -64,43 +68,51 @@ def guest(before, calls, turns):
             '.data\nname: .ascii "f\\0"\nroom: .zero 4096\n')
 
 
-def seconds(folder, script, text):
+def seconds(programs, folder, script, text):
+    """The median time of each program, which take turns."""
     with open(os.path.join(folder, "s"), "wb") as out:
         out.write(script)
     with open(os.path.join(folder, "t"), "w") as out:
         out.write(text)
     with open(os.path.join(folder, "v"), "wb") as out:
-        subprocess.run([PROGRAM, "asm", os.path.join(folder, "t")], stdout=out, check=True)
-    words = [PROGRAM, "run", "--calls", "131072", "--budget", "100000000",
+        subprocess.run([programs[0], "asm", os.path.join(folder, "t")], stdout=out, check=True)
+    words = ["run", "--calls", "131072", "--budget", "100000000",
              "--script", os.path.join(folder, "s"), os.path.join(folder, "v")]
-    times = []
+    times = {program: [] for program in programs}
     for _ in range(RUNS):
-        begun = time.perf_counter()
-        status = subprocess.run(words, stdout=subprocess.DEVNULL).returncode
-        times.append(time.perf_counter() - begun)
-        if status != 0:
-            sys.exit(f"status {status}")
-    return statistics.median(times)
+        for program in programs:
+            begun = time.perf_counter()
+            status = subprocess.run([program, *words], stdout=subprocess.DEVNULL).returncode
+            times[program].append(time.perf_counter() - begun)
+            if status != 0:
+                sys.exit(f"{program}: status {status}")
+    return [statistics.median(times[program]) for program in programs]
 
 
-def measure(folder, name, before, calls, size, few, many):
+def measure(programs, folder, name, before, calls, size, few, many):
     script = b"varan-script 1\n"
     if size:
         script += b"file f " + b"61" * size + b"\n"
     per_turn = calls.count("ecall")
-    base = seconds(folder, script, guest(before, calls, 0))
-    short = (seconds(folder, script, guest(before, calls, few // per_turn)) - base) / few
-    long = (seconds(folder, script, guest(before, calls, many // per_turn)) - base) / many
-    print(f"{name:28}  {1 / long:12,.0f}  {long / short:8.2f}", flush=True)
+    bases, shorts, longs = (seconds(programs, folder, script, guest(before, calls, turns)) for turns in (0, few // per_turn, many // per_turn))
+    short, *_ = [(one - base) / few for one, base in zip(shorts, bases)]
+    long, *others = [(one - base) / many for one, base in zip(longs, bases)]
+    beside = "".join(f"  {long / other:8.2f}" for other in others)
+    print(f"{name:28}  {1 / long:12,.0f}  {long / short:8.2f}{beside}", flush=True)
 
 
 def main():
+    reader = argparse.ArgumentParser(description="how many calls a second the program serves")
+    reader.add_argument("--program", default=PROGRAM)
+    reader.add_argument("--beside")
+    asked = reader.parse_args()
+    programs = [os.path.abspath(it) for it in (asked.program, asked.beside) if it]
     with tempfile.TemporaryDirectory() as folder:
-        print(f"{'call':28}  {'calls/s':>12}  {'growth':>8}")
+        print(f"{'call':28}  {'calls/s':>12}  {'growth':>8}" + (f"  {'beside':>8}" if asked.beside else ""))
         for name, before, calls, size in CASES:
-            measure(folder, name, before, calls, size, FEW, MANY)
+            measure(programs, folder, name, before, calls, size, FEW, MANY)
         for name, before, calls, size in LONG_CASES:
-            measure(folder, name, before, calls, size, 1_000, 4_000)
+            measure(programs, folder, name, before, calls, size, 1_000, 4_000)
 
 
 if __name__ == "__main__":
