@@ -10,6 +10,7 @@ pub mod Constants
 pub mod LaterCalls
 pub mod Console
 pub mod Connections
+mod InTurn
 pub mod Lists
 pub mod Stuck
 pub mod Falling
