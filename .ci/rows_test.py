@@ -48,6 +48,7 @@ FAULTY = [
     (WORDS + "status 2\nout b\n", LINE),
     (RIGHT + "what\n", LINE),
     (RIGHT + "says-fail b\n", NUMBER),
+    (RIGHT + "meets b\n", NUMBER),
     (WORDS + "status b\n", NUMBER),
     (WORDS, MISSING),
     ("status 2\n", MISSING),
@@ -93,6 +94,7 @@ SERVED = 'status 0, "", said "", noted "varan-script 5\\n"'
 # Rows that come out otherwise, and what is printed of them.
 OTHERWISE = [
     (RIGHT.replace("status 2", "status 0"), USAGE),
+    (RIGHT + "meets 1\n", USAGE.replace("status 2", "status 255")),
     (WORDS + "status 2\nout\n", USAGE),
     (WORDS + "status 2\nout\n|varan: usage\n|\n", USAGE),
     (WORDS + "status 2\nout\n|varan: usage$\n", USAGE),

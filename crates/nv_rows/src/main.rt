@@ -1,19 +1,22 @@
 //! Runs the rows of data/ through the top call (crates/nv_rows/data/README.md), and says which of them come out otherwise.
 //! Types: `Entry` and `Field` (the lines of a file), `Reader` (makes rows of entries), `Row` with its `RowFile`, `Change`, `Kind` and `Wanted`, `RowFault` (why
-//! an entry isn't read), `Tally` (how many rows came out otherwise).
+//! an entry isn't read), `Outside` and `Answered` (what a call finds, and what comes of it), `Tally` (how many rows came out otherwise).
 //! Proved: that nothing undefined is done; what is read is shown by the rows. The gate compares what it prints with the file `stdout`.
 #![tactic(auto)]
 
+mod call;
 mod content;
 mod draft;
 mod entry;
 mod fault;
+mod meeting;
 mod reader;
 mod row;
 mod run;
 mod shape;
 mod tally;
 mod texts;
+mod versions;
 
 use entry::entries;
 use reader::Reader;

@@ -79,6 +79,8 @@ pub struct Row {
     pub failing_says: Vec<u32>,
     /// The numbers, from 0, of the writes of its transcript that fail.
     pub failing_notes: Vec<u32>,
+    /// The run has a gate at which its two versions meet, and so many events.
+    pub meets: Option<u32>,
     /// A run isn't done again with other options of timing.
     pub is_once: bool,
     /// The call is done again for each byte of what was written, with a sink that takes a byte a write and fails at that one: the

@@ -1,8 +1,10 @@
 // The call of a row.
 ghost use Rattle.std.specs.Prelude.{◌<◌};
 
+use crate::call::{Answered, Outside, monitor, monitor_through};
+use crate::meeting::monitor_meeting;
 use crate::row::{Change, Kind, Row, RowFile};
-use nv_cli_harness::{Answered, Outside, assembled, image, monitor, monitor_through};
+use crate::versions::{assembled, image};
 use nv_workers::OpenGate;
 use std::alloc::{AllocError, Global};
 use std::sync::Wait;
@@ -122,6 +124,9 @@ fn call<R: Threads + Wait + Sync>(
 ) -> Result<Answered, AllocError>
     requires { 0 < outside.most }
 {
+    if let Some(events) = row.meets {
+        return monitor_meeting(rt, alloc, words, outside, events);
+    }
     if row.is_once {
         return monitor_through(rt, alloc, words, outside, &OpenGate);
     }

@@ -1,7 +1,7 @@
 // How many rows there were, and how many of them were wrong.
+use crate::call::Answered;
 use crate::fault::RowFault;
 use crate::row::Row;
-use nv_cli_harness::Answered;
 use std::alloc::{AllocError, Global};
 use std::io::Print;
 use std::{fmt, io};

@@ -1,7 +1,7 @@
 // Calls of the monitor over objects in memory.
 ghost use Rattle.std.specs.Prelude.{◌<◌};
 
-use nv_cli::{Left, exit_status, varan_over};
+use nv_cli::{Left, exit_status, varan, varan_over};
 use nv_live::{MemorySource, Streams};
 use nv_outside::{File, MemoryFiles, MemorySink};
 use nv_workers::{Gate, OpenGate};
@@ -135,13 +135,58 @@ pub fn monitor_through<R: Threads + Wait + Sync, G: Gate + Sync>(
 ) -> Result<Answered, AllocError>
     requires { 0 < outside.most }
 {
-    let words = words_of(alloc, words)?;
     let files = files_of(alloc, outside.files)?;
-    let mut source = MemoryFiles::make(files, outside.failing_reads.to_vec(alloc)?);
+    let source = MemoryFiles::make(files, outside.failing_reads.to_vec(alloc)?);
+    let owned = words_of(alloc, words)?;
+    if is_command(words, "serve") {
+        return serve_through(rt, alloc, &owned, source, outside, gate);
+    }
+    call_through(rt, alloc, &owned, source, outside, gate)
+}
+
+// A sink that fails as outside.
+fn sink_of(alloc: Global, outside: Outside) -> Result<MemorySink, AllocError>
+    requires { 0 < outside.most }
+{
     let failing = outside.failing_writes.to_vec(alloc)?;
-    let mut sink = MemorySink::make(alloc, CAPACITY, outside.most, failing)?;
+    MemorySink::make(alloc, CAPACITY, outside.most, failing)
+}
+
+// The call by the form that its specification gives.
+fn call_through<R: Threads + Wait + Sync, G: Gate + Sync>(
+    rt: &R,
+    alloc: Global,
+    words: &Vec<String>,
+    mut source: MemoryFiles,
+    outside: Outside,
+    gate: &G,
+) -> Result<Answered, AllocError>
+    requires { 0 < outside.most }
+{
+    let mut sink = sink_of(alloc, outside)?;
+    let status = varan(rt, alloc, words, &mut source, &mut sink, gate);
+    Ok(Answered {
+        status,
+        written: sink.written().to_vec(alloc)?,
+        said: Vec::new(alloc),
+        noted: Vec::new(alloc),
+    })
+}
+
+// A live run, which has streams beside that.
+fn serve_through<R: Threads + Wait + Sync, G: Gate + Sync>(
+    rt: &R,
+    alloc: Global,
+    words: &Vec<String>,
+    mut source: MemoryFiles,
+    outside: Outside,
+    gate: &G,
+) -> Result<Answered, AllocError>
+    requires { 0 < outside.most }
+{
+    let mut sink = sink_of(alloc, outside)?;
     let streams = streams_of(alloc, outside)?;
-    let (status, left) = varan_over(rt, alloc, &words, &mut source, &mut sink, gate, streams);
+    let (status, left) = varan_over(rt, alloc, words, &mut source, &mut sink, gate, streams);
     let written = sink.written().to_vec(alloc)?;
     let (said, noted) = told_by(alloc, &left)?;
     Ok(Answered {

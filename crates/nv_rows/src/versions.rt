@@ -1,5 +1,8 @@
-// Version files of one segment.
+// Version files: of one segment, and by their assembler texts.
+use crate::call::{Outside, monitor};
 use std::alloc::{AllocError, Global};
+use std::sync::Wait;
+use std::thread::Threads;
 
 // An ELF header and one program header: a loadable segment at 0x10000, which may be read and executed, with the entry there.
 const HEAD: [u8; 68] = [
@@ -25,4 +28,15 @@ pub fn image(alloc: Global, words: &[u32], tail: &[u8]) -> Result<Vec<u8>, Alloc
     file.extend_from_slice(&RIGHTS_AND_ALIGNMENT)?;
     file.extend_from_slice(&code)?;
     Ok(file)
+}
+
+/// The version of an assembler text.
+pub fn assembled<R: Threads + Wait + Sync>(
+    rt: &R,
+    alloc: Global,
+    text: &[u8],
+) -> Result<Vec<u8>, AllocError> {
+    let files = [("a", text)];
+    let made = monitor(rt, alloc, &["varan", "asm", "a"], Outside::calm(&files))?;
+    Ok(made.written)
 }
