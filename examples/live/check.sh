@@ -214,16 +214,6 @@ END
     same "$work/wanted" "$work/comments" "the operator's comments"
 }
 
-# failed_streams: standard input is a folder, and standard output is full; a comment says so.
-failed_streams() {
-    local status=0
-    "$program" serve "$old_service" <"$work" 2>"$work/transcript" >"$work/console" || status=$?
-    is "$status $(grep '^# varan: ' "$work/transcript")" "5 # varan: read standard input" "standard input that can't be read"
-    status=0
-    "$program" serve "$old_service" <"$work/lines" 2>"$work/transcript" >/dev/full || status=$?
-    is "$status $(grep '^# varan: ' "$work/transcript")" "6 # varan: write standard output" "standard output that can't be written"
-}
-
 # last_words: the update writes a line on descriptor 2, and breaks. By a rule the old version skips that write, which it doesn't make, and leads on.
 last_words() {
     cat >"$work/old.s" <<END
@@ -291,7 +281,6 @@ END
     chmod +x "$work/serve"
     in_a_pipe
     comments
-    failed_streams
     last_words
     long_event
     failed_streams
