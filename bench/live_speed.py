@@ -11,6 +11,7 @@ in each of N rounds, 5 by default. It needs qemu-riscv32 (Debian: qemu-user) and
 - A request: from connecting to the end of the answer, by varan-listen, one after the other; eleven calls. Then how many a second, eight clients beside each other.
   And the processor's time of the process that listens, varan-listen or qemu, for each request of both kinds.
 - A failover: from the line at which the leader breaks, and the versions that lead after it, to that line's answer by the version that leads on; and the line after it.
+  Then the same after a pause in which the followers' threads sleep, a tenth of a second and up to one sleep more, which ends by itself after 66 milliseconds.
 - The processor's time while nobody asks, of one processor.
 """
 import argparse
@@ -33,7 +34,7 @@ COUNTS = (1, 2, 4, 8)
 BREAKING = (1, 3, 7)
 REQUEST = b"GET / HTTP/1.0\r\nHost: example.org\r\n\r\n"
 # How much is asked in a round.
-LINES, LINES_AT_ONCE, REQUESTS, BESIDE, REQUESTS_BESIDE, FAILOVERS = 600, 4000, 100, 8, 400, 40
+LINES, LINES_AT_ONCE, REQUESTS, BESIDE, REQUESTS_BESIDE, FAILOVERS, PAUSED = 600, 4000, 100, 8, 400, 40, 12
 IDLE_SECONDS = 5
 SECONDS = 60
 
@@ -222,24 +223,29 @@ def requests_in(folder, program, rounds):
     })
 
 
-def failover(program, breaking):
-    """The seconds of the line at which so many versions break, and of the next one."""
+def failover(program, breaking, pause=0):
+    """The seconds of the line at which so many versions break, after a pause, and of the next one."""
     service = Lines([program, "serve", *[GUESTS / "service_2"] * breaking, GUESTS / "service_1"])
     for line, wanted in ((b"put colour green\n", b"kept\n"), (b"get colour\n", b"green\n"), (b"drop colour\n", b"dropped\n")):
         service.ask(line, wanted)
+    time.sleep(pause)
     took = service.ask(b"get colour\n", b"not there\n"), service.ask(b"get colour\n", b"not there\n")
     service.end()
     return took
 
 
 def failovers(program, rounds):
-    found = {breaking: [] for breaking in BREAKING}
+    found, paused = ({breaking: [] for breaking in BREAKING} for _ in range(2))
     for _ in range(rounds * FAILOVERS):
         for breaking in BREAKING:
             found[breaking].append(failover(program, breaking))
+    for number in range(rounds * PAUSED):
+        for breaking in BREAKING:
+            paused[breaking].append(failover(program, breaking, 0.1 + 0.066 * (number % PAUSED) / PAUSED)[0])
     table("versions that break, one after the other", {
         "the line at which they break, ms: p50, p95": {str(k): quantiles([first for first, _ in it], 1e3) for k, it in found.items()},
         "the line after it, ms: p50, p95": {str(k): quantiles([second for _, second in it], 1e3) for k, it in found.items()},
+        "the line at which they break after a pause, ms: p50, p95": {str(k): quantiles(it, 1e3) for k, it in paused.items()},
     })
 
 
