@@ -25,11 +25,11 @@ THEMES = [
     ("The monitor: leader, followers, rules", "begin with `Run` of nv_replay's Monitor and `Account` of Sequence; a rule's verdict is nv_rules' `verdict_of`",
      "nv_replay nv_rules nv_bpf"),
     ("The kernel: calls, files, sockets, what arrives", "begin with `serve_next` of nv_arriving's Arriving, then `serve` of nv_sockets' and of nv_kernel's Serving",
-     "nv_calls nv_script nv_arrivals nv_live nv_blocks nv_fs nv_kernel nv_sockets nv_arriving"),
+     "nv_calls nv_script nv_live nv_fs nv_kernel nv_sockets nv_arriving"),
     ("The guest: instructions, memory, threads", "begin with `effect` of nv_machine's Guest and the table of instructions (nv_isa's Table), then nv_threads",
      "nv_threads nv_guest nv_elf nv_machine nv_memory nv_isa"),
     ("The texts: reports, traces, assemblers, made runs", "begin with `report_text` of nv_report's Report",
-     "nv_report nv_trace nv_inspect nv_asm nv_bpf_asm nv_gen nv_text nv_bytes"),
+     "nv_report nv_trace nv_inspect nv_asm nv_bpf_asm nv_gen nv_bytes"),
 ]
 # the heading of the page's last list
 UNCITED = "\n## What these clauses don't cite\n"

@@ -69,9 +69,9 @@ LIMITS = (
     ("nv_script/specs/Entry.antt", r"clock\.step (\d+)", {"REPORT": "a step above {}", "SCRIPT": "STEP at most {}"}),
     ("nv_script/specs/Entry.antt", r"is_hand n = .* nat_le n (\d+)", {"REPORT": "a planned length that is 0 or above {}", "SCRIPT": "N of `hand` is from 1 to {}"}),
     ("nv_script/specs/Entry.antt", r"is_port n = .* nat_le n (\d+)", {"REPORT": "a port that is 0 or above {}", "SCRIPT": "PORT from 1 to {}"}),
-    ("nv_arrivals/specs/Arrivals.antt", r"is_nanos n = nat_le n (\d+)", {"REPORT": "nanoseconds above {}", "SCRIPT": "N of `clock` and `time` is at most {}"}),
-    ("nv_arrivals/specs/Reading.antt", r"length bytes\) (\d+)", {"REPORT": "`data` of more than {} bytes", "SCRIPT": "have 1 to {} bytes", "LIVE": "| an arrival | {} bytes"}),
-    ("nv_arrivals/specs/Order.antt", r"most_clients false = (\d+)", {"REPORT": "more than {} clients", "SCRIPT": "At most {} clients connect"}),
+    ("nv_script/specs/Arrivals.antt", r"is_nanos n = nat_le n (\d+)", {"REPORT": "nanoseconds above {}", "SCRIPT": "N of `clock` and `time` is at most {}"}),
+    ("nv_script/specs/Reading.antt", r"length bytes\) (\d+)", {"REPORT": "`data` of more than {} bytes", "SCRIPT": "have 1 to {} bytes", "LIVE": "| an arrival | {} bytes"}),
+    ("nv_script/specs/Order.antt", r"most_clients false = (\d+)", {"REPORT": "more than {} clients", "SCRIPT": "At most {} clients connect"}),
     ("nv_bpf/specs/Texts.antt", r"\(field (\d+) code\)", {"REPORT": "the first above {}, the second"}),
     ("nv_bpf/specs/Texts.antt", r"\(field (\d+) jt\)", {"REPORT": "the second or third above {}, the last"}),
     ("nv_bpf/specs/Verified.antt", r"ShiftLeft i k = unless \(nat_le k (\d+)\)", {"REPORT": "by a constant above {}", "RULES": "shifts by a constant go up to {}"}),
@@ -110,8 +110,6 @@ OPTION_LIMITS = (
 )
 # layers of crates.txt that stand beside the program
 BESIDE = {"tests", "benches"}
-# crates whose contracts are laws alone, as their heads say
-LAWS_ALONE = {"nv_served"}
 # what stands on a page for another program's option
 OTHERS = {"help", "version", "anew", "program"}
 
@@ -294,8 +292,8 @@ def head_of(crate):
 def proved(wrong):
     """The head of each crate of the program's layers says what is proved of it."""
     for name in (name for layer, _, uses in layers() if layer not in BESIDE for name, _ in uses):
-        if any(it.startswith("//! Proved") for it in whole_head(name)) == (name in LAWS_ALONE):
-            wrong.append(f"crates/{name}: its head {'says' if name in LAWS_ALONE else 'does not say'} what is proved")
+        if not any(it.startswith("//! Proved") for it in whole_head(name)):
+            wrong.append(f"crates/{name}: its head does not say what is proved")
 
 
 def crates(wrong):

@@ -7,10 +7,10 @@ use Rattle.nv_calls.specs.Calls.{Request, Entry}
 use Rattle.nv_calls.specs.Logs.{Start, calls_of}
 use Rattle.nv_calls.specs.Numbers.{syscall_of}
 use Rattle.nv_script.specs.Scripts.{Setup}
-use Rattle.nv_served.specs.Learning.{GoesOn}
+use Rattle.nv_calls.specs.Learning.{GoesOn}
 use Rattle.nv_sockets.specs.Serving as sockets
 use Rattle.nv_sockets.specs.Serving.{State, serve, start_of_script, first_state}
-use Rattle.nv_arrivals.specs.Arrivals.{Arrival}
+use Rattle.nv_script.specs.Arrivals.{Arrival}
 use Rattle.nv_arriving.specs.Arrivals.{any_ends, until, taken_for, in_vain}
 use Rattle.nv_arriving.specs.Arriving.{Standing, Stage, wait_of, arrive_all, with_end, unless_vain, taken, ready_for, with_state, later, later_as, nonblocking_by, noted, or_own, serve_by, answer_next, serve_next, Satisfied, first_standing, first_stage, start_of_arrivals}
 use Rattle.nv_arriving.specs.Timing.{until_of}

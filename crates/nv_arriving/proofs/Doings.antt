@@ -6,10 +6,10 @@ use Rattle.nv_calls.specs.Logs.{calls_of}
 use Rattle.nv_script.specs.Scripts.{Setup}
 use Rattle.nv_arriving.specs.declared.timing.Until.{Until}
 use Rattle.nv_arriving.specs.Timing.{until_of}
-use Rattle.nv_arrivals.specs.Arrivals.{Arrival}
+use Rattle.nv_script.specs.Arrivals.{Arrival}
 use Rattle.nv_arriving.specs.Arrivals.{in_vain}
 use Rattle.nv_arriving.specs.Arriving.{Stage, wait_of, taken, ready_for, serve_by, answer_next, serve_next, first_stage, Satisfied}
-use Rattle.nv_arrivals.specs.Doings.{Said, Doing, Takes, Says, Hands, takings}
+use Rattle.nv_script.specs.Doings.{Said, Doing, Takes, Says, Hands, takings}
 use Rattle.nv_arriving.specs.Doings.{said, doings_of, doings_from, doings}
 use Rattle.nv_arriving.proofs.Coming.{take_front, taken_few, taken_more, with_more, ready_more, next_more}
 

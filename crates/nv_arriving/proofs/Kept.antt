@@ -5,20 +5,20 @@ use Rattle.nv_calls.specs.Answer.{state_after}
 use Rattle.nv_calls.specs.Calls.{Request, Entry}
 use Rattle.nv_calls.specs.Logs.{calls_of, call_of}
 use Rattle.nv_script.specs.Scripts.{Setup}
-use Rattle.nv_served.specs.Learning.{GoesOn}
-use Rattle.nv_served.proofs.LearningLaws.{goes_on_same}
+use Rattle.nv_calls.specs.Learning.{GoesOn}
+use Rattle.nv_calls.proofs.LearningLaws.{goes_on_same}
 use Rattle.nv_kernel.specs.Crew.{Crew}
 use Rattle.nv_kernel.proofs.Keeping.{map_more}
 use Rattle.nv_sockets.specs.Serving.{State}
-use Rattle.nv_arrivals.specs.declared.arrival.Arrival as code
-use Rattle.nv_arrivals.specs.Arrivals.{Arrival}
+use Rattle.nv_script.specs.declared.arrival.Arrival as code
+use Rattle.nv_script.specs.Arrivals.{Arrival}
 use Rattle.nv_arriving.specs.declared.waiting.Intake.{Intake}
 use Rattle.nv_arriving.specs.declared.waiting.Want.{Want}
 use Rattle.nv_arriving.specs.Arrivals.{ends, any_ends, until, taken_for, in_vain}
 use Rattle.nv_arriving.specs.Arriving.{Standing, Stage, wants, wait_of, arrive_all, taken, ready_for, serve_next, first_stage, Satisfied, start_of_arrivals}
 use Rattle.nv_arriving.specs.Kernel.{after, intake_of, Grew}
 use Rattle.nv_arriving.proofs.Coming.{drop_front, taken_few, with_more, after_more, satisfied_last, satisfied_more, goes_on}
-use Rattle.nv_arrivals.specs.Views.{view as arrival_of}
+use Rattle.nv_script.specs.ArrivalViews.{view as arrival_of}
 use Rattle.nv_arriving.proofs.Steps.{drop_map, take_map}
 use Rattle.nv_arriving.proofs.Taken.{not_is}
 use Rattle.nv_arriving.specs.Timing.{until_of}

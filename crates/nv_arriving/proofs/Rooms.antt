@@ -7,7 +7,7 @@ use Rattle.nv_fs.specs.Reserved.{Disk}
 use Rattle.nv_sockets.specs.Sockets.{Inbox, Link, Net, is_going, with_inbox}
 use Rattle.nv_sockets.specs.Reserved.{Held, Buffered}
 use Rattle.nv_sockets.specs.Coming.{connected, with_data, ended, came_over, HasInput, HasPlaces}
-use Rattle.nv_arrivals.specs.Arrivals.{Arrival, Input, InputEnd, ClientsEnd, Connect, Data, End, Time}
+use Rattle.nv_script.specs.Arrivals.{Arrival, Input, InputEnd, ClientsEnd, Connect, Data, End, Time}
 use Rattle.nv_arriving.specs.Reserved.{Room, input_bytes, connects, data_of, HasKept, HasRoom, CanTakeIn, IsKept}
 use Rattle.nv_arriving.proofs.Sides.{bytes_first}
 

@@ -15,7 +15,7 @@ use Rattle.nv_fs.specs.Told.{prints as prints_at}
 use Rattle.nv_fs.proofs.Cases.{by_test}
 use Rattle.nv_kernel.specs.Serving as kernel
 use Rattle.nv_kernel.specs.Serving.{request_arg}
-use Rattle.nv_arrivals.specs.Doings.{Said, Sent, Printed}
+use Rattle.nv_script.specs.Doings.{Said, Sent, Printed}
 use Rattle.nv_sockets.specs.declared.did.Did.{Did}
 use Rattle.nv_sockets.specs.declared.did.Did.TheVariants as done
 use Rattle.nv_sockets.specs.declared.socket.Socket.{Socket}

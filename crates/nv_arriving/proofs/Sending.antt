@@ -8,8 +8,8 @@ use Rattle.std.specs.contracts.snapshot.Snapshot as Snapshot
 use Rattle.nv_past.proofs.past.Past.TheSendSync.{the_send as past_send}
 use Rattle.nv_calls.proofs.bytes.Bytes.TheSendSync.{the_send as bytes_send}
 use Rattle.nv_calls.proofs.calls.Event.TheSendSync.{the_field_send as event_send}
-use Rattle.nv_arrivals.proofs.arrival.Arrival.TheSendSync.{the_field_send as arrival_send}
-use Rattle.nv_arrivals.specs.declared.outside.Outside.{Ghosts}
+use Rattle.nv_script.proofs.arrival.Arrival.TheSendSync.{the_field_send as arrival_send}
+use Rattle.nv_script.specs.declared.outside.Outside.{Ghosts}
 use Rattle.nv_arriving.proofs.guests.GuestSide.TheSendSync.{the_field_send as side_send}
 use Rattle.nv_arriving.proofs.waiting.Intake.TheSendSync.{the_field_send as intake_send}
 use Rattle.nv_arriving.specs.contracts.answering.Guests as Guests

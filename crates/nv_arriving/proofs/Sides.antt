@@ -18,7 +18,7 @@ use Rattle.nv_sockets.specs.Sockets.{socket_at}
 use Rattle.nv_sockets.specs.Reserved as sockets
 use Rattle.nv_sockets.specs.Reserved.{Buffered, can_send, CanSend, CanWriteTo}
 use Rattle.nv_arriving.specs.declared.waiting.Want.{Want}
-use Rattle.nv_arrivals.specs.Arrivals.{Arrival, Input, InputEnd, ClientsEnd, Connect, Data, End, Time}
+use Rattle.nv_script.specs.Arrivals.{Arrival, Input, InputEnd, ClientsEnd, Connect, Data, End, Time}
 use Rattle.nv_arriving.specs.Arriving.{Standing, wants_as, wants, arrive, arrive_all}
 use Rattle.nv_arriving.specs.Flags.{is_nonblocking}
 use Rattle.nv_arriving.specs.Reserved.{input_bytes, IsSameBut, with_memory}

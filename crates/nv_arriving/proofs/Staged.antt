@@ -4,7 +4,7 @@ use Rattle.nv_calls.specs.Answer.{reply_of, state_after}
 use Rattle.nv_calls.specs.Calls.{Request, Entry}
 use Rattle.nv_calls.specs.Logs.{calls_of, output_of}
 use Rattle.nv_script.specs.Scripts.{Setup}
-use Rattle.nv_arrivals.specs.Arrivals.{Arrival}
+use Rattle.nv_script.specs.Arrivals.{Arrival}
 use Rattle.nv_arriving.specs.Arriving.{first_stage, answer_next, serve_next, start_of_arrivals}
 
 pub output_is : (setup : Setup) (came : List Arrival) (log : List Entry) → output_of (start_of_arrivals setup came) log ≡ (state_after serve_next (first_stage setup came) (calls_of log)).here.state.own.files.console

@@ -6,15 +6,15 @@ use Rattle.nv_calls.specs.Logs.{IsNew, made, served, child_of, calls_of, live_af
 use Rattle.nv_calls.specs.Shapes.{IsShaped}
 use Rattle.nv_calls.proofs.LogLaws.{live_more}
 use Rattle.nv_script.specs.Scripts.{Setup}
-use Rattle.nv_served.specs.Learning.{GoesOn}
+use Rattle.nv_calls.specs.Learning.{GoesOn}
 use Rattle.nv_kernel.specs.Answering.{MayCome, IsAnswer}
 use Rattle.nv_kernel.specs.Crew.{Crew, IsCrew}
 use Rattle.nv_kernel.proofs.CrewLaws.{first_is}
 use Rattle.nv_kernel.proofs.Crews.{live_by}
 use Rattle.nv_kernel.proofs.Going.{log_more}
 use Rattle.nv_sockets.specs.Serving.{State}
-use Rattle.nv_arrivals.specs.Arrivals.{Arrival}
-use Rattle.nv_arrivals.specs.Doings.{Said, Doing, Takes, Says, handing}
+use Rattle.nv_script.specs.Arrivals.{Arrival}
+use Rattle.nv_script.specs.Doings.{Said, Doing, Takes, Says, handing}
 use Rattle.nv_arriving.specs.Arrivals.{in_vain}
 use Rattle.nv_arriving.specs.Arriving.{Standing, Stage, wait_of, arrive_all, taken, ready_for, serve_by, answer_next, serve_next, first_stage, Satisfied, start_of_arrivals}
 use Rattle.nv_arriving.specs.declared.timing.Until.{Until}

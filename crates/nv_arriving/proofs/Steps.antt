@@ -4,10 +4,10 @@ use Rattle.std.specs.Prelude.{slice_index_or, if◌then◌else◌}
 use Rattle.std.specs.List.{position_from}
 use Rattle.std.proofs.lemmas.Option.{same_Some}
 use Rattle.nv_kernel.proofs.Keeping.{map_more}
-use Rattle.nv_arrivals.specs.declared.arrival.Arrival.{Arrival}
-use Rattle.nv_arrivals.specs.Arrivals as spec
+use Rattle.nv_script.specs.declared.arrival.Arrival.{Arrival}
+use Rattle.nv_script.specs.Arrivals as spec
 use Rattle.nv_arriving.specs.Arrivals.{any_ends, until}
-use Rattle.nv_arrivals.specs.Views.{view as arrival_of}
+use Rattle.nv_script.specs.ArrivalViews.{view as arrival_of}
 
 next_place : (i : ℕ) → i + 1 ≡ suc i
 next_place i = omega arith

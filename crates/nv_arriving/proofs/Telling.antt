@@ -1,6 +1,6 @@
 -- What an outside tells, one thing behind another.
 use Rattle.std.proofs.Common.{◌≡◌, sym, ap, refl, subst, List, [], ◌∷◌, ◌++◌, map, append_assoc, append-nil}
-use Rattle.nv_arrivals.specs.Doings.{Said, Doing, Says}
+use Rattle.nv_script.specs.Doings.{Said, Doing, Says}
 use Rattle.nv_arriving.specs.Telling.{Adds}
 
 pub says_both : (xs ys : List Said) → map Says (xs ++ ys) ≡ map Says xs ++ map Says ys

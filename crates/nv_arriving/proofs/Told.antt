@@ -6,8 +6,8 @@ use Rattle.nv_calls.specs.Answer.{state_after}
 use Rattle.nv_calls.specs.Calls.{Entry}
 use Rattle.nv_calls.specs.Logs.{calls_of}
 use Rattle.nv_script.specs.Scripts.{Setup}
-use Rattle.nv_arrivals.specs.Arrivals.{Arrival}
-use Rattle.nv_arrivals.specs.Doings.{Said, Doing, Takes, Says, Hands, takings, sayings, handing}
+use Rattle.nv_script.specs.Arrivals.{Arrival}
+use Rattle.nv_script.specs.Doings.{Said, Doing, Takes, Says, Hands, takings, sayings, handing}
 use Rattle.nv_arriving.specs.Arriving.{Stage, taken, ready_for, answer_next, serve_next, first_stage, Satisfied}
 use Rattle.nv_arriving.specs.Doings.{said, doings_of, doings}
 use Rattle.nv_arriving.specs.Kernel.{after, Grew}

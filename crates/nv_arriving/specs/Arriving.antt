@@ -20,7 +20,7 @@ use Rattle.nv_sockets.specs.Serving.{State, serve, first_state, link_written}
 use Rattle.nv_arriving.specs.declared.timing.Until.{Until}
 use Rattle.nv_arriving.specs.declared.waiting.Want.{Want}
 use Rattle.nv_arriving.specs.declared.waiting.Want.TheVariants as want
-use Rattle.nv_arrivals.specs.Arrivals.{Arrival, Input, InputEnd, ClientsEnd, Connect, Data, End, Time}
+use Rattle.nv_script.specs.Arrivals.{Arrival, Input, InputEnd, ClientsEnd, Connect, Data, End, Time}
 use Rattle.nv_arriving.specs.Arrivals.{ends, taken_for, in_vain}
 use Rattle.nv_arriving.specs.NonBlocking.{each_waits, with_socket}
 use Rattle.nv_arriving.specs.Timing.{until_of, sleep_wants, slept, with_time}

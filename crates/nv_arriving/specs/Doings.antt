@@ -11,8 +11,8 @@ use Rattle.nv_sockets.specs.declared.socket.Socket.{Socket}
 use Rattle.nv_sockets.specs.declared.socket.Socket.TheVariants.{Fresh, Bound, Listening, Connected}
 use Rattle.nv_sockets.specs.Sockets.{Net, socket_at, link_output}
 use Rattle.nv_sockets.specs.Serving.{State}
-use Rattle.nv_arrivals.specs.Arrivals.{Arrival}
-use Rattle.nv_arrivals.specs.Doings.{Said, Accepted, Sent, Closed, Printed, Doing, Takes, Says}
+use Rattle.nv_script.specs.Arrivals.{Arrival}
+use Rattle.nv_script.specs.Doings.{Said, Accepted, Sent, Closed, Printed, Doing, Takes, Says}
 use Rattle.nv_arriving.specs.Arriving.{Stage, taken, ready_for, answer_next, serve_next, first_stage}
 use Rattle.nv_arriving.specs.Kernel.{after}
 

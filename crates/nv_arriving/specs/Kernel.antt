@@ -5,7 +5,7 @@ use Rattle.nv_calls.specs.Numbers.{syscall_of}
 use Rattle.nv_script.specs.Scripts.{Setup}
 use Rattle.nv_kernel.specs.Reserved as kernel
 use Rattle.nv_sockets.specs.Reserved.{CanSend}
-use Rattle.nv_arrivals.specs.Arrivals.{Arrival}
+use Rattle.nv_script.specs.Arrivals.{Arrival}
 use Rattle.nv_arriving.specs.Arrivals.{in_vain}
 use Rattle.nv_arriving.specs.Arriving.{Stage, wait_of, taken}
 use Rattle.nv_arriving.specs.declared.waiting.Intake.{Intake}

@@ -16,7 +16,7 @@ use Rattle.nv_kernel.specs.Serving.{request_arg}
 use Rattle.nv_sockets.specs.declared.socket.Socket.{Socket}
 use Rattle.nv_sockets.specs.declared.socket.Socket.TheVariants.{Fresh, Bound, Listening, Connected}
 use Rattle.nv_sockets.specs.Sockets.{socket_at, next_at, has_unread}
-use Rattle.nv_arrivals.specs.Arrivals.{Arrival, Input, InputEnd, ClientsEnd, Connect, Data, End, Time}
+use Rattle.nv_script.specs.Arrivals.{Arrival, Input, InputEnd, ClientsEnd, Connect, Data, End, Time}
 use Rattle.nv_arriving.specs.declared.polled.Polled.{Polled}
 use Rattle.nv_arriving.specs.declared.timing.Until.{Until}
 use Rattle.nv_arriving.specs.declared.timing.Until.TheVariants as until

@@ -3,7 +3,7 @@ use Rattle.std.specs.Prelude.{◌≡◌, ℕ, suc, ◌+◌, ◌-◌, ◌≤◌, 
 use Rattle.nv_fs.specs.Reserved.{Disk}
 use Rattle.nv_sockets.specs.Reserved.{Buffered, IsWhole}
 use Rattle.nv_sockets.specs.Coming.{came_over, HasInput, HasPlaces}
-use Rattle.nv_arrivals.specs.Arrivals.{Arrival, Input, InputEnd, ClientsEnd, Connect, Data, End, Time}
+use Rattle.nv_script.specs.Arrivals.{Arrival, Input, InputEnd, ClientsEnd, Connect, Data, End, Time}
 
 -- The files and the sockets with their memory; and for how many bytes of each of the clients that connect memory was taken, those of the last one first.
 pub record Room : Type 0 where

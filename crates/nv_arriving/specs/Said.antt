@@ -1,7 +1,7 @@
 -- What is said of what a call did, and how it is let go.
 use Rattle.std.specs.Prelude.{ℕ, List, [], ◌∷◌, take, length, slice_set}
-use Rattle.nv_arrivals.specs.Doings as doings
-use Rattle.nv_arrivals.specs.Doings.{Said}
+use Rattle.nv_script.specs.Doings as doings
+use Rattle.nv_script.specs.Doings.{Said}
 use Rattle.nv_sockets.specs.declared.did.Did.{Did}
 use Rattle.nv_sockets.specs.declared.did.Did.TheVariants.{Nothing, Accepted, Sent, Closed, Printed}
 use Rattle.nv_sockets.specs.Reserved.{Buffered}

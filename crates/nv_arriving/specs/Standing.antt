@@ -5,7 +5,7 @@ use Rattle.nv_calls.specs.Calls.{Entry}
 use Rattle.nv_calls.specs.Logs.{calls_of, live_after}
 use Rattle.nv_script.specs.Scripts.{Setup}
 use Rattle.nv_kernel.specs.Crew.{IsCrew}
-use Rattle.nv_arrivals.specs.Doings.{Doing}
+use Rattle.nv_script.specs.Doings.{Doing}
 use Rattle.nv_arriving.specs.Arriving.{serve_next, first_stage, Satisfied}
 use Rattle.nv_arriving.specs.Kernel.{Coming}
 use Rattle.nv_arriving.specs.Reserved.{IsKept}

@@ -3,13 +3,13 @@ ghost use Rattle.std.specs.Prelude.{◌≡◌, ◌≤◌, ℕ, [], List, false, 
 ghost use Rattle.nv_calls.specs.Calls.{request, Entry};
 ghost use Rattle.nv_calls.specs.Limits.{MOST_BYTES};
 ghost use Rattle.nv_calls.specs.Shapes.{IsShaped};
-ghost use Rattle.nv_served.specs.Learning.{GoesOn};
+ghost use Rattle.nv_calls.specs.Learning.{GoesOn};
 ghost use Rattle.nv_script.specs.Scripts.{Setup};
 ghost use Rattle.nv_script.specs.Views.{setup_of};
 ghost use Rattle.nv_kernel.specs.Answering.{MayCome, IsAnswer};
 ghost use Rattle.nv_kernel.specs.Reserved.{most_out};
 ghost use Rattle.nv_sockets.specs.Views.{link_of, gone_of};
-ghost use Rattle.nv_arrivals.specs.Views.{view as arrival_of};
+ghost use Rattle.nv_script.specs.ArrivalViews.{view as arrival_of};
 ghost use Rattle.nv_arriving.specs.Arriving.{first_standing, start_of_arrivals};
 ghost use Rattle.nv_arriving.specs.Kernel.{CanServe, KeepsOn, begun_in};
 ghost use Rattle.nv_arriving.specs.Reserved.{IsKept};
@@ -21,13 +21,12 @@ use crate::guests::GuestSide;
 use crate::listed::{Nothing, copies};
 use crate::timing::Until;
 use crate::waiting::Intake;
-use nv_arrivals::{Arrival, Outside};
 use nv_calls::{Bytes, Call, Syscall};
 use nv_fs::FileSystem;
 use nv_kernel::Answers;
 use nv_live::Telling;
 use nv_past::Past;
-use nv_script::Script;
+use nv_script::{Arrival, Outside, Script};
 use nv_sockets::Connection;
 use std::alloc::{AllocError, Global};
 use std::marker::Model;
@@ -56,7 +55,7 @@ pub struct Guests<O: Outside> {
 impl<O: Outside> Model for Guests<O> {
     ghost use Rattle.std.specs.Prelude.{◌≤◌, length, map, drop};
     ghost use Rattle.nv_arriving.specs.Kernel.{Coming};
-    ghost use Rattle.nv_arrivals.specs.Views.{view as arrival_of};
+    ghost use Rattle.nv_script.specs.ArrivalViews.{view as arrival_of};
     ghost use Rattle.nv_arriving.specs.Views.{standing_of, room_of};
 
     ghost Value = { Coming O };

@@ -1,7 +1,7 @@
 // What is heard from outside.
 ghost use Rattle.std.specs.Prelude.{◌≡◌, ◌≤◌, ◌+◌, [], true, false, not, IfOk, OnOk, length, map, drop};
-ghost use Rattle.nv_arrivals.specs.Doings.{Takes};
-ghost use Rattle.nv_arrivals.specs.Views.{view as arrival_of};
+ghost use Rattle.nv_script.specs.Doings.{Takes};
+ghost use Rattle.nv_script.specs.ArrivalViews.{view as arrival_of};
 ghost use Rattle.nv_calls.specs.Calls.{request};
 ghost use Rattle.nv_calls.specs.Numbers.{syscall_of};
 ghost use Rattle.nv_arriving.specs.Arrivals.{ends, any_ends, in_vain, until};
@@ -14,9 +14,9 @@ ghost use Rattle.nv_arriving.specs.Telling.{Adds};
 use crate::guests::GuestSide;
 use crate::timing::Until;
 use crate::waiting::{Intake, Want};
-use nv_arrivals::{Arrival, Outside};
 use nv_calls::{Call, Syscall};
 use nv_past::Past;
+use nv_script::{Arrival, Outside};
 use std::alloc::{AllocError, Global};
 
 // Those that the guests' side doesn't have.

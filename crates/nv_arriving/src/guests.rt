@@ -13,9 +13,9 @@ ghost use Rattle.nv_arriving.specs.Doings.{of_bytes, said};
 ghost use Rattle.nv_arriving.specs.Said.{said_of, settled};
 ghost use Rattle.nv_arriving.specs.Telling.{Adds};
 ghost use Rattle.nv_arriving.specs.Reserved.{CanTakeIn, HasRoom, IsSameBut, IsKept, with_memory};
-ghost use Rattle.nv_arrivals.specs.Arrivals as spec;
-ghost use Rattle.nv_arrivals.specs.Doings.{Says, Sent, Printed};
-ghost use Rattle.nv_arrivals.specs.Views.{view as arrival_of};
+ghost use Rattle.nv_script.specs.Arrivals as spec;
+ghost use Rattle.nv_script.specs.Doings.{Says, Sent, Printed};
+ghost use Rattle.nv_script.specs.ArrivalViews.{view as arrival_of};
 ghost use Rattle.nv_arriving.specs.Views.{standing_of, room_of};
 
 use crate::nonblocking::NonBlocking;
@@ -23,10 +23,9 @@ use crate::prepared::Prepared;
 use crate::reserving::{connects, forget_all, input_bytes, promise_all};
 use crate::timing::Until;
 use crate::waiting::Want;
-use nv_arrivals::{Arrival, Outside, Said};
 use nv_calls::{Bytes, Call, MOST_BYTES, MOST_VECTORS, Syscall};
 use nv_fs::parts::prefix;
-use nv_script::Script;
+use nv_script::{Arrival, Outside, Said, Script};
 use nv_sockets::{Did, Host, Socket, Sockets, are_flags};
 use std::alloc::{AllocError, Global};
 

@@ -12,11 +12,10 @@ ghost use Rattle.nv_arriving.specs.Telling.{Tells};
 use crate::answering::Guests;
 use crate::guests::GuestSide;
 use crate::scripted::Listed;
-use nv_arrivals::Outside;
 use nv_fs::FileSystem;
 use nv_kernel::Kernel;
 use nv_live::Telling;
-use nv_script::Script;
+use nv_script::{Outside, Script};
 use nv_sockets::Connection;
 use std::alloc::Global;
 

@@ -4,10 +4,10 @@ ghost use Rattle.nv_calls.specs.Answer.{state_after};
 ghost use Rattle.nv_calls.specs.Calls.{Entry};
 ghost use Rattle.nv_calls.specs.Logs.{calls_of};
 ghost use Rattle.nv_script.specs.Scripts.{Setup};
-ghost use Rattle.nv_arrivals.specs.Arrivals.{Arrival};
+ghost use Rattle.nv_script.specs.Arrivals.{Arrival};
 ghost use Rattle.nv_sockets.specs.Serving.{start_of_script};
 ghost use Rattle.nv_arriving.specs.Arriving.{serve_next, first_stage, start_of_arrivals, Satisfied};
-ghost use Rattle.nv_arrivals.specs.Doings.{takings};
+ghost use Rattle.nv_script.specs.Doings.{takings};
 ghost use Rattle.nv_arriving.specs.Scripted.{start_from};
 ghost use Rattle.nv_arriving.specs.Doings.{doings, doings_from};
 

@@ -1,10 +1,10 @@
 // What a script lists, which has all come when the kernel is made.
 ghost use Rattle.std.specs.Prelude.{◌≡◌, IfOk, map};
-ghost use Rattle.nv_arrivals.specs.Views.{view as arrival_of};
+ghost use Rattle.nv_script.specs.ArrivalViews.{view as arrival_of};
 
-use nv_arrivals::{Arrival, Outside, Said};
 use nv_live::Telling;
 use nv_past::Past;
+use nv_script::{Arrival, Outside, Said};
 use std::alloc::{AllocError, Global};
 
 /// An outside from which nothing comes, and which tells nothing of what is said.

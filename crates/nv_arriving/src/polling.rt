@@ -6,7 +6,7 @@ ghost use Rattle.nv_calls.specs.Calls.{request};
 ghost use Rattle.nv_calls.specs.Limits.{MOST_BYTES};
 ghost use Rattle.nv_calls.specs.declared.numbers.Syscall.TheVariants.{Pselect6};
 ghost use Rattle.nv_calls.specs.Numbers.{syscall_of};
-ghost use Rattle.nv_arrivals.specs.Views.{view as arrival_of};
+ghost use Rattle.nv_script.specs.ArrivalViews.{view as arrival_of};
 ghost use Rattle.nv_arriving.specs.Polling.{looked_at, places, connected_events, socket_events, events, told, told_of, is_ready, ready_in, ready, comes_to, calls_at, comes_in, readies, is_source, has_source, is_at_end, ends_poll, has_bad_count, is_refused, poll_waits, poll_wants, is_closed, has_closed, refuses_closed, idle_answer, ready_ret, with_bytes, told_in, ready_bits, ready_byte, told_bytes, poll_of};
 ghost use Rattle.nv_arriving.specs.Views.{standing_of};
 
@@ -15,10 +15,10 @@ use crate::polled::{Polled, byte, count_of, listed_count};
 use crate::timing::Until;
 use crate::waiting::Want;
 use arrayvec::ArrayVec;
-use nv_arrivals::Arrival;
 use nv_calls::errors::{EBADF, EINTR, EINVAL};
 use nv_calls::{Bytes, Call, MOST_POLLED, Syscall, sets_bytes};
 use nv_fs::polls::{HUNG, READABLE, WRITABLE, when};
+use nv_script::Arrival;
 use nv_sockets::Socket;
 
 /// POLLNVAL: the descriptor isn't open.

@@ -1,11 +1,11 @@
 // How much memory arrivals need, and the taking of it.
 ghost use Rattle.std.specs.Prelude.{◌≡◌, ◌≤◌, ◌<◌, ◌+◌, ◌-◌, ℕ, suc, length, map, [], ◌∷◌, slice_index, OnOk, IfOk};
 ghost use Rattle.nv_sockets.specs.Coming.{came_over, HasInput};
-ghost use Rattle.nv_arrivals.specs.Views.{view as arrival_of};
+ghost use Rattle.nv_script.specs.ArrivalViews.{view as arrival_of};
 ghost use Rattle.nv_arriving.specs.Reserved.{input_bytes, connects, data_of};
 
 use crate::prepared::Prepared;
-use nv_arrivals::Arrival;
+use nv_script::Arrival;
 use nv_sockets::Sockets;
 use std::alloc::AllocError;
 

@@ -5,11 +5,10 @@ ghost use Rattle.nv_arriving.specs.Reserved.{IsKept};
 
 use crate::answering::Guests;
 use crate::listed::Nothing;
-use nv_arrivals::Outside;
 use nv_calls::{Bytes, Call};
 use nv_fs::FileSystem;
 use nv_kernel::{Answers, Foretold, FromScript, KeepsAll};
-use nv_script::Script;
+use nv_script::{Outside, Script};
 use nv_sockets::Connection;
 use std::alloc::{AllocError, Global};
 

@@ -4,13 +4,13 @@ ghost use Rattle.std.specs.List.{position_from};
 ghost use Rattle.nv_calls.specs.Calls.{request};
 ghost use Rattle.nv_calls.specs.Numbers.{syscall_of};
 ghost use Rattle.nv_arriving.specs.Arrivals.{ends, any_ends, until};
-ghost use Rattle.nv_arrivals.specs.Views.{view as arrival_of};
+ghost use Rattle.nv_script.specs.ArrivalViews.{view as arrival_of};
 ghost use Rattle.nv_arriving.specs.Views.{standing_of};
 
 use crate::guests::GuestSide;
 use crate::timing::{Until, reaches};
-use nv_arrivals::Arrival;
 use nv_calls::{Call, Syscall};
+use nv_script::Arrival;
 
 /// What a call waits for.
 #[derive(Clone, Copy)]

@@ -2,8 +2,8 @@
 use Rattle.std.specs.Prelude.{◌≡◌, refl, [], ◌∷◌, Ok, Err}
 use Rattle.nv_isa.specs.Table.{encoding}
 use Rattle.nv_isa.specs.Spelling.{encoded}
-use Rattle.nv_text.specs.Lines.{lines, trim, operands, is_name, parted, line_of}
-use Rattle.nv_text.specs.Names.{defined, definitions, first_fault}
+use Rattle.nv_bytes.specs.Lines.{lines, trim, operands, is_name, parted, line_of}
+use Rattle.nv_bytes.specs.Names.{defined, definitions, first_fault}
 use Rattle.nv_asm.specs.declared.fault.AsmCause.TheVariants as cause
 use Rattle.nv_asm.specs.declared.fault.AsmFault.TheVariants as fault
 use Rattle.nv_asm.specs.Numbers.{registers, register_named, literal, number}

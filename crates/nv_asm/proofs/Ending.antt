@@ -3,8 +3,8 @@ use Rattle.std.proofs.Common.{◌≡◌, ℕ, ◌+◌, ◌%◌, ◌<◌, ◌≤�
 use Rattle.std.specs.List.{list_all}
 use Rattle.std.proofs.lemmas.Bool.{and_from}
 use Rattle.std.proofs.lemmas.Bool.Decides.{nat_tests}
-use Rattle.nv_text.specs.Lines.{lines}
-use Rattle.nv_text.specs.Names.{defined}
+use Rattle.nv_bytes.specs.Lines.{lines}
+use Rattle.nv_bytes.specs.Names.{defined}
 use Rattle.nv_elf.specs.Elf.{Range, Executable, range_extent, shares, overlap_from, holds_entry, can_be_entry}
 use Rattle.nv_elf.specs.Written.{is_program, is_sound, range_bytes}
 use Rattle.nv_asm.specs.declared.fault.AsmCause.{AsmCause}

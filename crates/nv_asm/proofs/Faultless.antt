@@ -4,8 +4,8 @@ use Rattle.std.specs.Prelude.{ℤ}
 use Rattle.std.specs.Int.{w32, to_le_bytes}
 use Rattle.std.proofs.lemmas.List.{length-replicate}
 use Rattle.std.proofs.lemmas.Bool.Decides.{nat_tests}
-use Rattle.nv_text.specs.Lines.{LinesLeft, IsNextLine}
-use Rattle.nv_text.specs.Names.{first_fault, or_later}
+use Rattle.nv_bytes.specs.Lines.{LinesLeft, IsNextLine}
+use Rattle.nv_bytes.specs.Names.{first_fault, or_later}
 use Rattle.nv_asm.specs.declared.fault.AsmCause.{AsmCause}
 use Rattle.nv_asm.specs.declared.fault.AsmCause.TheVariants as cause
 use Rattle.nv_asm.specs.declared.place.Section.{Section}

@@ -2,7 +2,7 @@
 use Rattle.std.proofs.Common.{◌≡◌, ℕ, ◌<◌, Bool, true, false, ◌&&◌, IsTrue, IfSome, refl, nat_lt, List, [], ◌∷◌, Option, Some, None, if◌then◌else◌, bytes_eq}
 use Rattle.std.specs.List.{list_all}
 use borrow.Author.Tests.{ltb-true}
-use Rattle.nv_text.specs.Names.{defined}
+use Rattle.nv_bytes.specs.Names.{defined}
 
 pub below-32 : (o : Option ℕ) → IfSome o (λ n. IsTrue (nat_lt n 32)) → IfSome o (λ n. n < 32)
 below-32 None h = h

@@ -2,8 +2,8 @@
 use Rattle.std.proofs.Common.{◌≡◌, ℕ, ◌+◌, ◌*◌, ◌^◌, ◌<◌, ◌≤◌, Bool, true, false, List, [], ◌∷◌, Option, Some, None, if◌then◌else◌, IfSome, length, map, bytes_eq, refl, sym, ap, ◌∙◌, arith}
 use Rattle.std.specs.Option.{option_or}
 use Rattle.std.specs.List.{onto_first}
-use Rattle.nv_text.specs.Lines.{lines, is_newline, LinesLeft, IsNextLine}
-use Rattle.nv_text.specs.Names.{defined, defining, definitions, knowing}
+use Rattle.nv_bytes.specs.Lines.{lines, is_newline, LinesLeft, IsNextLine}
+use Rattle.nv_bytes.specs.Names.{defined, defining, definitions, knowing}
 use Rattle.nv_asm.specs.declared.place.Label.{Label}
 use Rattle.nv_asm.specs.declared.place.Reached.{Reached}
 use Rattle.nv_asm.specs.declared.place.Section.{Section}

@@ -1,7 +1,7 @@
 -- How many bytes a line can have at most.
 use Rattle.std.proofs.Common.{◌≡◌, ℕ, ◌+◌, ◌≤◌, Bool, true, false, if◌then◌else◌, List, [], ◌∷◌, length, map, take, Option, Some, None, option_map, IfSome, Result, Ok, Err, IfOk, Bor, ap, refl, arith, length-drop, length-take}
 use Rattle.std.specs.List.{slice_split, onto_first}
-use Rattle.nv_text.specs.Lines.{is_comma, is_name_byte, trim, operands, operands_of, prefix, rest_after, line_with, after_name, parted, line_of}
+use Rattle.nv_bytes.specs.Lines.{is_comma, is_name_byte, trim, operands, operands_of, prefix, rest_after, line_with, after_name, parted, line_of}
 use Rattle.nv_asm.specs.declared.strings.Mark.{Mark}
 use Rattle.nv_asm.specs.declared.strings.Mark.TheVariants.{Stands, Escapes, Ends, Wrong}
 use Rattle.nv_asm.specs.declared.strings.Where.TheVariants.{Outside}

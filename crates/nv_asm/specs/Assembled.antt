@@ -5,8 +5,8 @@ use Rattle.std.specs.Int.{next_multiple_of, w32, to_le_bytes}
 use Rattle.nv_isa.specs.declared.op.Op.TheVariants as op
 use Rattle.nv_isa.specs.Spelling.{encoded}
 use Rattle.nv_elf.specs.Elf.{Range, Executable}
-use Rattle.nv_text.specs.Lines.{lines, line_number}
-use Rattle.nv_text.specs.Names.{defined, definitions, first_fault}
+use Rattle.nv_bytes.specs.Lines.{lines, line_number}
+use Rattle.nv_bytes.specs.Names.{defined, definitions, first_fault}
 use Rattle.nv_asm.specs.declared.fault.AsmCause.{AsmCause}
 use Rattle.nv_asm.specs.declared.fault.AsmCause.TheVariants as cause
 use Rattle.nv_asm.specs.declared.fault.AsmFault.{AsmFault}

@@ -4,8 +4,8 @@ use Rattle.std.specs.List.{list_all}
 use Rattle.std.specs.Option.{option_or}
 use Rattle.std.specs.Char.{is_ascii_digit, is_ascii_hexdigit}
 use Rattle.std.specs.Str.Parse.{digits_value}
-use Rattle.nv_text.specs.Lines.{is_digit}
-use Rattle.nv_text.specs.Names.{defined}
+use Rattle.nv_bytes.specs.Lines.{is_digit}
+use Rattle.nv_bytes.specs.Names.{defined}
 
 -- the registers' names by their use
 unfoldable pub registers : List (List ℕ × ℕ)

@@ -1,7 +1,7 @@
 -- Where each line's statement stands.
 use Rattle.std.specs.Prelude.{ℕ, ◌+◌, ◌*◌, List, [], ◌∷◌, length, take, Option, Result, Ok, Err}
 use Rattle.std.specs.Int.{next_multiple_of}
-use Rattle.nv_text.specs.Lines.{Parts, line_of}
+use Rattle.nv_bytes.specs.Lines.{Parts, line_of}
 use Rattle.nv_asm.specs.declared.fault.AsmCause.{AsmCause}
 use Rattle.nv_asm.specs.declared.fault.AsmCause.TheVariants as cause
 use Rattle.nv_asm.specs.declared.place.Section.{Section}

@@ -7,8 +7,8 @@ use Rattle.nv_isa.specs.declared.op.Op.{Op}
 use Rattle.nv_isa.specs.declared.op.Op.TheVariants as op
 use Rattle.nv_isa.specs.declared.op.Insn.{Insn}
 use Rattle.nv_isa.specs.Spelling.{encoded}
-use Rattle.nv_text.specs.Lines.{is_name, operands, prefix, rest_after}
-use Rattle.nv_text.specs.Names.{defined}
+use Rattle.nv_bytes.specs.Lines.{is_name, operands, prefix, rest_after}
+use Rattle.nv_bytes.specs.Names.{defined}
 use Rattle.nv_asm.specs.declared.fault.AsmCause.{AsmCause}
 use Rattle.nv_asm.specs.declared.fault.AsmCause.TheVariants as cause
 use Rattle.nv_asm.specs.declared.forms.Order.{Order}

@@ -1,7 +1,7 @@
 // The assembler.
 ghost use Rattle.std.specs.Prelude.{◌≡◌, ◌^◌, ◌∷◌, true, not, ◌≢◌, ◌≤◌, ◌<◌, ◌+◌, ◌++◌, ◌%◌, Some, Ok, Err, IsTrue, IfOk, IfErr, OnOk, vec_len, length};
-ghost use Rattle.nv_text.specs.Lines.{lines};
-ghost use Rattle.nv_text.specs.Names.{defined};
+ghost use Rattle.nv_bytes.specs.Lines.{lines};
+ghost use Rattle.nv_bytes.specs.Names.{defined};
 ghost use Rattle.nv_elf.specs.Elf.{segment_range, executable_of};
 ghost use Rattle.nv_elf.specs.Written.{is_program, range_bytes};
 ghost use Rattle.nv_asm.specs.declared.place.Section.TheVariants as section;
@@ -16,8 +16,8 @@ use crate::labels::{START, labels};
 use crate::laying::{TEXT_BASE, data_base, entry_past, laid};
 use crate::place::{Label, Reached, Section};
 use crate::placed::placed_line;
+use nv_bytes::{Lines, Names, line_number};
 use nv_elf::{Program, Segment};
-use nv_text::{Lines, Names, line_number};
 use std::alloc::{AllocError, Global};
 
 // The sections' bytes, and the address to begin at.

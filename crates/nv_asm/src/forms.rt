@@ -1,10 +1,10 @@
 // The words that begin a statement.
 ghost use Rattle.std.specs.Prelude.{◌≡◌, IsTrue, IfSome, pos, ◌≤ℤ◌};
-ghost use Rattle.nv_text.specs.Names.{defined};
+ghost use Rattle.nv_bytes.specs.Names.{defined};
 ghost use Rattle.nv_asm.specs.Forms.{kinds, is_lawful, flags};
 
+use nv_bytes::find;
 use nv_isa::Op;
-use nv_text::find;
 
 /// What an atomic operation orders (the manual's section 8.1).
 #[derive(Clone, Copy, Debug, PartialEq, Eq)]

@@ -1,7 +1,7 @@
 // The first pass: where each label is first defined, and how long the text section is.
 ghost use Rattle.std.specs.Prelude.{◌≡◌, ◌≤◌, ◌^◌, ℕ, List, IfOk, OnOk, length};
-ghost use Rattle.nv_text.specs.Lines.{lines};
-ghost use Rattle.nv_text.specs.Names.{defined, defining};
+ghost use Rattle.nv_bytes.specs.Lines.{lines};
+ghost use Rattle.nv_bytes.specs.Names.{defined, defining};
 ghost use Rattle.nv_asm.specs.Places.{after, marked, placed, placed_line, size, nothing_reached, stated};
 ghost use Rattle.nv_asm.specs.inner.Bounds.{most_of};
 ghost use Rattle.nv_asm.specs.declared.place.Label.{Label};
@@ -11,7 +11,7 @@ ghost use Rattle.nv_asm.specs.inner.Known.{IsWithin, defined_among, IsBelow};
 
 use crate::place::{Label, Reached, Section};
 use crate::placed::{Placed, placed_line};
-use nv_text::{Lines, Names};
+use nv_bytes::{Lines, Names};
 use std::alloc::{AllocError, Global};
 
 /// Before the first line.

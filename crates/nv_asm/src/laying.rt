@@ -2,7 +2,7 @@
 ghost use Rattle.std.specs.Prelude.{◌≡◌, ◌≤◌, ◌<◌, ◌+◌, ◌-◌, ℤ, pos, neg_ℤ, ◌≤ℤ◌, IfSome, ◌++◌, ◌^◌, ℕ, IsTrue, Ok, map, replicate, option_map, IfOk, OnOk, length};
 ghost use Rattle.std.specs.List.{list_any};
 ghost use Rattle.std.specs.Int.{w32, to_le_bytes};
-ghost use Rattle.nv_text.specs.Names.{defined};
+ghost use Rattle.nv_bytes.specs.Names.{defined};
 ghost use Rattle.nv_isa.specs.declared.op.Op.TheVariants as op;
 ghost use Rattle.nv_isa.specs.Spelling.{encoded, low_bits};
 ghost use Rattle.nv_asm.specs.Statements.{insn, word_of};
@@ -18,8 +18,8 @@ use crate::numbers::Register;
 use crate::place::{Label, Place, Reached, Section};
 use crate::placed::Placed;
 use crate::statements::{loading, word_of};
+use nv_bytes::Names;
 use nv_isa::{Insn, Op, encode};
-use nv_text::Names;
 use std::alloc::{AllocError, Global};
 
 /// Where the text section begins.

@@ -3,13 +3,13 @@ ghost use Rattle.std.specs.Prelude.{◌≡◌, ℕ, ℤ, pos, ◌≤ℤ◌, ◌<
 ghost use Rattle.std.specs.List.{list_all};
 ghost use Rattle.std.specs.Str.{IsAscii};
 ghost use Rattle.std.specs.Str.Parse.{digits_value, IsNumeral};
-ghost use Rattle.nv_text.specs.Names.{defined};
-ghost use Rattle.nv_text.specs.Lines.{is_digit};
+ghost use Rattle.nv_bytes.specs.Names.{defined};
+ghost use Rattle.nv_bytes.specs.Lines.{is_digit};
 ghost use Rattle.std.specs.Char.{is_ascii_digit, is_ascii_hexdigit};
 ghost use Rattle.nv_asm.specs.Numbers.{registers, register_named, numbered_register, decimal, hexadecimal, magnitude, signed, literal, number, number_of_32_bits, is_number};
 ghost use Rattle.nv_asm.specs.inner.Small.{small, small_signed, with_sign, IsDigits};
 
-use nv_text::find;
+use nv_bytes::find;
 
 /// A register's number.
 #[derive(Clone, Copy, Debug, PartialEq, Eq)]

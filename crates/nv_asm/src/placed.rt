@@ -1,6 +1,6 @@
 // Where each line's statement stands.
 ghost use Rattle.std.specs.Prelude.{◌≡◌, ◌≤◌, ◌<◌, ◌+◌, ◌*◌, ◌^◌, length, IfOk};
-ghost use Rattle.nv_text.specs.Parts.{parts_of};
+ghost use Rattle.nv_bytes.specs.Parts.{parts_of};
 ghost use Rattle.nv_asm.specs.Statements.{statement};
 ghost use Rattle.nv_asm.specs.Places.{here, filled, among_data, in_section, size, code_size, begin, past, stated, or_blank, place, after, line_parts, placed_parts, placed_line};
 ghost use Rattle.nv_asm.specs.inner.Bounds.{most_of};
@@ -12,7 +12,7 @@ use crate::fault::AsmCause;
 use crate::place::{Place, Reached, Section};
 use crate::statements::statement_of;
 use crate::strings::comment_place;
-use nv_text::{Line, line_of};
+use nv_bytes::{Line, line_of};
 use std::alloc::{AllocError, Global};
 
 /// A line with its statement, or why it has none.

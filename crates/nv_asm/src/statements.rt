@@ -16,8 +16,8 @@ use crate::fault::AsmCause;
 use crate::forms::{Kind, Order, Shape, flags, kind_of};
 use crate::numbers::{Register, is_number, number, number_of_32_bits, register_of};
 use crate::strings::string;
+use nv_bytes::{is_name, operands};
 use nv_isa::{Insn, Op, encode};
-use nv_text::{is_name, operands};
 use std::alloc::{AllocError, Global};
 
 fn number_of_8_bits(text: &[u8]) -> Option<Option<i32>>

@@ -2,9 +2,9 @@
 ghost use Rattle.std.specs.Prelude.{◌≡◌, true};
 
 use anyhow::{Result, bail};
+use nv_bytes::number;
 use nv_machine::{Regs, Stepped, step};
 use nv_memory::{Memory, Region, Width};
-use nv_text::number;
 use std::alloc::{AllocError, Global};
 use std::io::Print;
 

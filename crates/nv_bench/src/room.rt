@@ -3,8 +3,8 @@ ghost use Rattle.std.specs.Prelude.{◌≡◌, ◌<◌, ◌≤◌, IfOk};
 ghost use Rattle.nv_calls.specs.Limits.{MOST_EVENTS};
 ghost use Rattle.nv_room_harness.specs.Scripts.{AreCalls};
 
+use nv_calls::{Recorded, SyscallKernel};
 use nv_room_harness::{Script, exit_group, kernel, serve_all, write};
-use nv_served::{Recorded, SyscallKernel};
 use std::alloc::{AllocError, Global};
 use std::thread::Threads;
 

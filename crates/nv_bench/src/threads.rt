@@ -6,9 +6,9 @@ ghost use Rattle.nv_bench.specs.Firsts.{firsts};
 ghost use Rattle.nv_guest.specs.Load.{IsMemorySize};
 
 use anyhow::{Result, bail};
+use nv_bytes::number;
 use nv_calls::{CLONE, FIRST_THREAD, MOST_THREADS};
 use nv_guest::Guest;
-use nv_text::number;
 use nv_threads::{Came, Process, Want};
 use std::alloc::Global;
 use std::fs;

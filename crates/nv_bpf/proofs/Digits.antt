@@ -7,7 +7,7 @@ use Rattle.std.proofs.lemmas.Bool.Decides.{nat_tests}
 use Rattle.std.proofs.lemmas.List.Elements.{All-nil, All-cons}
 use Rattle.std.proofs.lemmas.Str.Parse.{digit_from_value}
 use Rattle.std.proofs.lemmas.Fmt.{decimal_is_IsNumeral}
-use Rattle.nv_text.specs.Numbers.{number_of, decimal_of}
+use Rattle.nv_bytes.specs.Numbers.{number_of, decimal_of}
 use Rattle.nv_bpf.specs.Texts.{field, at_most}
 
 is_digit : (c : ℕ) → digit_value c < 10 → is_ascii_digit c ≡ true

@@ -4,11 +4,11 @@ use Rattle.std.proofs.lemmas.Option.{same_Some}
 use Rattle.nv_bpf.specs.declared.op.Op.{Op}
 use Rattle.nv_bpf.specs.declared.op.FilterFault.{FilterFault}
 use Rattle.nv_bpf.specs.declared.op.FilterFault.TheVariants as fault
-use Rattle.nv_text.specs.Fields.{fields}
-use Rattle.nv_text.specs.Lines.{lines}
+use Rattle.nv_bytes.specs.Fields.{fields}
+use Rattle.nv_bytes.specs.Lines.{lines}
 use Rattle.nv_bpf.specs.Texts.{op_of_fields, op_of, ops_of, put_first, with_line, line_count, ops_after, ops_of_lines, ops_of_text}
-use Rattle.nv_text.specs.Numbers.{number_of}
-use Rattle.nv_text.proofs.Laws.{fields-some}
+use Rattle.nv_bytes.specs.Numbers.{number_of}
+use Rattle.nv_bytes.proofs.Laws.{fields-some}
 
 abbrev pub Split : List ℕ → Bor (List ℕ) × Option (Bor (List ℕ)) → Type 0
 Split line r = MatchOption r.1 (fields line ≡ r.0.now ∷ []) (λ rest. fields line ≡ r.0.now ∷ fields rest.now)

@@ -4,14 +4,14 @@ use Rattle.std.specs.List.{All}
 use Rattle.std.proofs.lemmas.Bool.Decides.{nat_tests}
 use Rattle.std.proofs.lemmas.List.Elements.{All-cons, All-append, All-head, All-tail}
 use Rattle.std.proofs.lemmas.List.Splits.{slice_split_at, slice_split_none}
-use Rattle.nv_text.specs.Fields.{fields}
-use Rattle.nv_text.specs.Lines.{lines}
-use Rattle.nv_text.specs.Numbers.{decimal_of}
+use Rattle.nv_bytes.specs.Fields.{fields}
+use Rattle.nv_bytes.specs.Lines.{lines}
+use Rattle.nv_bytes.specs.Numbers.{decimal_of}
 use Rattle.nv_bpf.specs.declared.op.Op.{Op}
 use Rattle.nv_bpf.specs.Verified.{list_fault, ops_or}
 use Rattle.nv_bpf.proofs.FilterLaws.{list_fault-none}
 use Rattle.nv_bpf.specs.Texts.{op_of_fields, op_of, ops_of, put_first, with_line, line_count, ops_after, ops_of_lines, ops_of_text, filter_with, filter_of, op_text, ops_text, FitsFields}
-use Rattle.nv_text.proofs.Laws.{lines-line}
+use Rattle.nv_bytes.proofs.Laws.{lines-line}
 use Rattle.nv_bpf.proofs.Digits.{decimal-lacks, number_of-decimal, field-decimal}
 
 -- the line of an instruction, without its newline

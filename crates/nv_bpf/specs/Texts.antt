@@ -1,8 +1,8 @@
 -- The text of a filter, as `tcpdump -ddd` prints it: the count, then a line with code, jt, jf and k for each instruction.
 use Rattle.std.specs.Prelude.{ℕ, zero, suc, List, [], ◌∷◌, ◌++◌, Option, Some, None, Result, Ok, Err, if◌then◌else◌, ◌==◌, nat_lt, nat_le, ◌+◌, ◌^◌, ◌<◌, length, flat_map, option_and_then}
-use Rattle.nv_text.specs.Fields.{fields}
-use Rattle.nv_text.specs.Lines.{lines}
-use Rattle.nv_text.specs.Numbers.{number_of, decimal_of}
+use Rattle.nv_bytes.specs.Fields.{fields}
+use Rattle.nv_bytes.specs.Lines.{lines}
+use Rattle.nv_bytes.specs.Numbers.{number_of, decimal_of}
 use Rattle.nv_bpf.specs.declared.op.Op.{Op}
 use Rattle.nv_bpf.specs.declared.op.FilterFault.{FilterFault}
 use Rattle.nv_bpf.specs.declared.op.FilterFault.TheVariants as fault

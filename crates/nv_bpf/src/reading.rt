@@ -1,11 +1,11 @@
 // The reader of filters.
 ghost use Rattle.std.specs.Prelude.{◌≡◌, ◌≢◌, ◌<◌, ◌≤◌, ◌^◌, Ok, Err, [], ◌∷◌, length, IfOk, IfErr, IfSome};
 ghost use Rattle.nv_bpf.specs.Texts.{field, op_of_fields, op_of, ops_of, ops_of_text, filter_of, line_count};
-ghost use Rattle.nv_text.specs.Lines.{lines};
-ghost use Rattle.nv_text.specs.Numbers.{number_of};
+ghost use Rattle.nv_bytes.specs.Lines.{lines};
+ghost use Rattle.nv_bytes.specs.Numbers.{number_of};
 
 use crate::{Filter, FilterFault, MOST_OPS, Op, verify};
-use nv_text::{Lines, line_number, number, split_field};
+use nv_bytes::{Lines, line_number, number, split_field};
 use std::alloc::Global;
 
 // A number that is at most this.

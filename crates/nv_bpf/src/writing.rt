@@ -3,7 +3,7 @@ ghost use Rattle.std.specs.Prelude.{◌≡◌, ◌++◌, Ok, IfOk, OnOk, length}
 ghost use Rattle.nv_bpf.specs.Texts.{ended_number, op_text, ops_text, filter_of, FitsFields};
 
 use crate::{Filter, MOST_OPS, Op};
-use nv_text::decimal;
+use nv_bytes::decimal;
 use std::alloc::{AllocError, Global};
 
 // Writes a number with the byte that ends it.

@@ -1,7 +1,7 @@
 -- Instructions gathered from lines.
 use Rattle.std.proofs.Common.{◌≡◌, ℕ, ◌+◌, List, [], ◌∷◌, ◌++◌, Option, Some, None, Result, Ok, Err, refl, sym, ap, ◌∙◌, append_assoc, append-nil, option_to_list}
 use Rattle.nv_bpf.specs.declared.op.Op.{Op}
-use Rattle.nv_text.specs.Lines.{LinesLeft, IsNextLine}
+use Rattle.nv_bytes.specs.Lines.{LinesLeft, IsNextLine}
 use Rattle.nv_bpf_asm.specs.declared.fault.RuleFault.{RuleFault}
 use Rattle.nv_bpf_asm.specs.declared.fault.RuleCause.{RuleCause}
 use Rattle.nv_bpf_asm.specs.Assembled.{Find, op_of_line, op_of_parts, ops_of, put_first, with_line, line_parts, count}

@@ -1,8 +1,8 @@
 -- What a label is first defined as, over the labels before and the rest.
 use Rattle.std.proofs.Common.{◌≡◌, ℕ, ◌+◌, ◌≤◌, Bool, true, false, List, [], ◌∷◌, Option, Some, None, if◌then◌else◌, bytes_eq, refl, sym, ap, ◌∙◌, lit≤}
 use Rattle.std.specs.Option.{option_or}
-use Rattle.nv_text.specs.Lines.{LinesLeft, IsNextLine}
-use Rattle.nv_text.specs.Names.{defined, defining, knowing}
+use Rattle.nv_bytes.specs.Lines.{LinesLeft, IsNextLine}
+use Rattle.nv_bytes.specs.Names.{defined, defining, knowing}
 use Rattle.nv_bpf_asm.specs.declared.label.Label.{Label}
 use Rattle.nv_bpf_asm.specs.Assembled.{labels, line_parts, count, word_count}
 

@@ -3,8 +3,8 @@ use Rattle.std.specs.Prelude.{ℕ, Bool, false, not, ◌&&◌, List, [], ◌∷�
 use Rattle.nv_bpf.specs.declared.op.Op.{Op}
 use Rattle.nv_bpf.specs.declared.op.FilterFault.{FilterFault}
 use Rattle.nv_bpf.specs.Verified.{verified}
-use Rattle.nv_text.specs.Lines.{Parts, lines, line_number, line_of, prefix}
-use Rattle.nv_text.specs.Names.{defined, defining}
+use Rattle.nv_bytes.specs.Lines.{Parts, lines, line_number, line_of, prefix}
+use Rattle.nv_bytes.specs.Names.{defined, defining}
 use Rattle.nv_bpf_asm.specs.declared.label.Label.{Label}
 use Rattle.nv_bpf_asm.specs.declared.fault.RuleCause.{RuleCause}
 use Rattle.nv_bpf_asm.specs.declared.fault.RuleCause.TheVariants as cause

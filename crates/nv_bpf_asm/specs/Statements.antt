@@ -2,9 +2,9 @@
 use Rattle.std.specs.Prelude.{ℕ, ◌&&◌, List, [], ◌∷◌, Option, Some, None, Result, Err, if◌then◌else◌, ◌==◌, nat_eq, nat_le, ◌+◌, ◌-◌, length, take, drop, slice_index, bytes_eq, codes, option_map, option_and_then}
 use Rattle.std.specs.Option.{option_or, ok_or}
 use Rattle.std.specs.List.{starts_with}
-use Rattle.nv_text.specs.Numbers.{number_of}
-use Rattle.nv_text.specs.Lines.{is_name, operands}
-use Rattle.nv_text.specs.Names.{defined}
+use Rattle.nv_bytes.specs.Numbers.{number_of}
+use Rattle.nv_bytes.specs.Lines.{is_name, operands}
+use Rattle.nv_bytes.specs.Names.{defined}
 use Rattle.nv_bpf_asm.specs.declared.forms.Form.{Form}
 use Rattle.nv_bpf_asm.specs.declared.forms.Form.TheVariants.{Alone, Sum, Branch, Scratch, Return, Jump, Load, LoadIndex}
 use Rattle.nv_bpf_asm.specs.declared.fault.RuleCause.{RuleCause}

@@ -1,8 +1,8 @@
 // The assembler of rule texts.
 ghost use Rattle.std.specs.Prelude.{◌≡◌, ◌≢◌, Ok, Err, ◌++◌, option_map, option_to_list, IfOk, IfErr, OnOk};
-ghost use Rattle.nv_text.specs.Lines.{lines};
-ghost use Rattle.nv_text.specs.Names.{defined};
-ghost use Rattle.nv_text.specs.Parts.{parts_of};
+ghost use Rattle.nv_bytes.specs.Lines.{lines};
+ghost use Rattle.nv_bytes.specs.Names.{defined};
+ghost use Rattle.nv_bytes.specs.Parts.{parts_of};
 ghost use Rattle.nv_bpf_asm.specs.Assembled.{is_twice, op_of_word, op_of_parts, ops_of, assembled};
 
 use crate::fault::{RuleCause, RuleFault};
@@ -11,7 +11,7 @@ use crate::labels::{labels, line_parts, word_count};
 use crate::statements::statement_of;
 use crate::targets::op_of;
 use nv_bpf::{Filter, MOST_OPS, Op, verify};
-use nv_text::{Line, Lines, Names, line_number};
+use nv_bytes::{Line, Lines, Names, line_number};
 use std::alloc::{AllocError, Global};
 
 // Whether the label is defined on an earlier line.

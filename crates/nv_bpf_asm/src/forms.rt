@@ -1,9 +1,9 @@
 // The words that begin an instruction.
 ghost use Rattle.std.specs.Prelude.{◌≡◌};
-ghost use Rattle.nv_text.specs.Names.{defined};
+ghost use Rattle.nv_bytes.specs.Names.{defined};
 ghost use Rattle.nv_bpf_asm.specs.Statements.{forms};
 
-use nv_text::find;
+use nv_bytes::find;
 
 /// What operands an instruction takes, with its code where that is one.
 #[derive(Clone, Copy, Debug, PartialEq, Eq)]

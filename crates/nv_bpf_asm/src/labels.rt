@@ -1,12 +1,12 @@
 // The labels of a rule text.
 ghost use Rattle.std.specs.Prelude.{◌≡◌, ℕ, List, IfOk};
-ghost use Rattle.nv_text.specs.Lines.{lines};
-ghost use Rattle.nv_text.specs.Names.{defined};
-ghost use Rattle.nv_text.specs.Parts.{parts_of};
+ghost use Rattle.nv_bytes.specs.Lines.{lines};
+ghost use Rattle.nv_bytes.specs.Names.{defined};
+ghost use Rattle.nv_bytes.specs.Parts.{parts_of};
 ghost use Rattle.nv_bpf_asm.specs.Assembled.{line_parts, word_count, labels};
 
 use crate::label::Label;
-use nv_text::{Line, Lines, Names, cut, line_of};
+use nv_bytes::{Line, Lines, Names, cut, line_of};
 use std::alloc::{AllocError, Global};
 
 /// The parts of a line, without its comment.

@@ -6,7 +6,7 @@ ghost use Rattle.nv_bpf_asm.specs.inner.Views.{view, result_view};
 
 use crate::fault::RuleCause;
 use crate::forms::{Form, form_of};
-use nv_text::{is, is_name, number, operands};
+use nv_bytes::{is, is_name, number, operands};
 use std::alloc::{AllocError, Global};
 
 // the value by which a call takes the event's answer

@@ -1,6 +1,6 @@
 // The instructions of statements, with the ways to their targets.
 ghost use Rattle.std.specs.Prelude.{◌≡◌};
-ghost use Rattle.nv_text.specs.Names.{defined};
+ghost use Rattle.nv_bytes.specs.Names.{defined};
 ghost use Rattle.nv_bpf_asm.specs.Assembled.{way, near_way, jump_op, branch_by, branch_op, op_of};
 ghost use Rattle.nv_bpf_asm.specs.inner.Views.{view};
 
@@ -8,7 +8,7 @@ use crate::fault::RuleCause;
 use crate::label::Label;
 use crate::statements::Statement;
 use nv_bpf::Op;
-use nv_text::Names;
+use nv_bytes::Names;
 
 // How many instructions lie between a jump and its target, where that is after the jump.
 fn way(place: usize, target: Label) -> Option<u32>

@@ -3,7 +3,7 @@ use Rattle.std.proofs.Common.{◌≡◌, ℕ, ◌+◌, ◌^◌, ◌<◌, List, �
 use Rattle.std.proofs.lemmas.List.{drop-drop, drop_at}
 use Rattle.byteorder.specs.Endian.{little_number, little_bytes}
 use Rattle.byteorder.specs.Numbers.{little_number-reads_back}
-use Rattle.nv_bytes.specs.Fields.{field_at}
+use Rattle.nv_bytes.specs.LittleEndian.{field_at}
 
 -- a field after other bytes
 pub field_at-append : (n : ℕ) (before bytes : List ℕ) (place : ℕ) → field_at n (before ++ bytes) (length before + place) ≡ field_at n bytes place

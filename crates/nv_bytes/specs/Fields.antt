@@ -1,11 +1,24 @@
--- Little-endian fields in a list of bytes.
-use Rattle.std.specs.Prelude.{ℕ, List, ◌++◌, ◌+◌, take, drop}
-use Rattle.byteorder.specs.Endian.{little_number, little_bytes}
+-- The fields of a line, which single spaces separate.
+use Rattle.std.specs.Prelude.{ℕ, Bool, not, List, [], ◌∷◌, Option, Some, None, ◌==◌}
+use Rattle.std.specs.List.{slice_split}
+use Rattle.nv_bytes.specs.Lines.{prefix, rest_after}
 
--- the number in the n bytes from a place, the lowest byte first
-unfoldable pub field_at : ℕ → List ℕ → ℕ → ℕ
-field_at n bytes place = little_number n (drop place bytes)
+abbrev pub is_space : ℕ → Bool
+is_space b = b == 32
 
--- the list with a number in the n bytes from a place, and with all else as it was
-unfoldable pub with_field : ℕ → List ℕ → ℕ → ℕ → List ℕ
-with_field n bytes place value = take place bytes ++ (little_bytes n value ++ drop (place + n) bytes)
+abbrev pub is_not_space : ℕ → Bool
+is_not_space b = not (is_space b)
+
+abbrev pub first_word : List ℕ → List ℕ
+first_word line = prefix is_not_space line
+
+abbrev pub without_first : List ℕ → Option (List ℕ)
+without_first [] = None
+without_first (b ∷ bs) = Some bs
+
+-- the rest after the first space, if there is one
+abbrev pub rest_of : List ℕ → Option (List ℕ)
+rest_of line = without_first (rest_after is_not_space line)
+
+unfoldable pub fields : List ℕ → List (List ℕ)
+fields line = slice_split is_space line

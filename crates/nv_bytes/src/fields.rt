@@ -1,47 +1,36 @@
-// Little-endian fields in a slice.
-#![tactic(auto, unfolding(crate::specs::Fields::field_at, crate::specs::Fields::with_field))]
+// Texts cut at a byte, and the fields of a line.
+ghost use Rattle.std.specs.Prelude.{◌≡◌, ◌<◌, ◌≤◌, ◌==◌, not, [], ◌∷◌, length, option_map, MatchOption, IfSome};
+ghost use Rattle.std.specs.List.{prefix_len, slice_split};
+ghost use Rattle.nv_bytes.specs.Lines.{prefix, rest_after};
+ghost use Rattle.nv_bytes.specs.Fields.{without_first, first_word, rest_of, fields};
 
-ghost use Rattle.std.specs.Prelude.{◌≡◌, ◌+◌, ◌≤◌, length};
-ghost use Rattle.nv_bytes.specs.Fields.{field_at, with_field};
-
-use byteorder::{ByteOrder, LittleEndian};
-
-/// The field of two bytes at this place.
-pub fn u16_at(bytes: &[u8], place: usize) -> u16
-    requires { place + 2 ≤ length bytes.now }
-    ensures { result ≡ field_at 2 bytes.now place }
+fn place_of(text: &[u8], byte: u8) -> usize
+    ensures count { result ≡ prefix_len (λ b. not (b == byte)) text.now }
+    ensures inside { result ≤ length text.now }
 {
-    LittleEndian::read_u16(&bytes[place..])
+    text.iter().take_while(|b| **b != byte).count()
 }
 
-/// The field of four bytes at this place.
-pub fn u32_at(bytes: &[u8], place: usize) -> u32
-    requires { place + 4 ≤ length bytes.now }
-    ensures { result ≡ field_at 4 bytes.now place }
+/// What stands before the first byte of this value, and the rest after it, if there is one.
+pub fn cut(text: &[u8], byte: u8) -> (&[u8], Option<&[u8]>)
+    ensures prefix { result.0.now ≡ prefix (λ b. not (b == byte)) text.now }
+    ensures rest { option_map (λ rest. rest.now) result.1 ≡ without_first (rest_after (λ b. not (b == byte)) text.now) }
+    ensures shorter { IfSome result.1 (λ rest. length rest.now < length text.now) }
+    ensures parts { MatchOption result.1 (slice_split (λ b. b == byte) text.now ≡ result.0.now ∷ []) (λ rest. slice_split (λ b. b == byte) text.now ≡ result.0.now ∷ slice_split (λ b. b == byte) rest.now) }
 {
-    LittleEndian::read_u32(&bytes[place..])
+    let (prefix, after) = text.split_at(place_of(text, byte));
+    match after {
+        [] => (prefix, None),
+        [_, rest @ ..] => (prefix, Some(rest)),
+    }
 }
 
-/// The field of eight bytes at this place.
-pub fn u64_at(bytes: &[u8], place: usize) -> u64
-    requires { place + 8 ≤ length bytes.now }
-    ensures { result ≡ field_at 8 bytes.now place }
+/// The first field, and the rest after its space, if there is one.
+#[tactic(auto, unfolding(crate::specs::Fields::fields))]
+pub fn split_field(text: &[u8]) -> (&[u8], Option<&[u8]>)
+    ensures word { result.0.now ≡ first_word text.now }
+    ensures rest { option_map (λ rest. rest.now) result.1 ≡ rest_of text.now }
+    ensures fields { MatchOption result.1 (fields text.now ≡ result.0.now ∷ []) (λ rest. fields text.now ≡ result.0.now ∷ fields rest.now) }
 {
-    LittleEndian::read_u64(&bytes[place..])
-}
-
-/// Writes a field of four bytes at this place.
-pub fn put_u32(out: &mut [u8], place: usize, value: u32)
-    requires { place + 4 ≤ length out.old }
-    ensures { out.new ≡ with_field 4 out.old place value }
-{
-    LittleEndian::write_u32(&mut out[place..], value);
-}
-
-/// Writes a field of eight bytes at this place.
-pub fn put_u64(out: &mut [u8], place: usize, value: u64)
-    requires { place + 8 ≤ length out.old }
-    ensures { out.new ≡ with_field 8 out.old place value }
-{
-    LittleEndian::write_u64(&mut out[place..], value);
+    cut(text, b' ')
 }

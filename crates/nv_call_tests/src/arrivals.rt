@@ -1,5 +1,4 @@
-use nv_arrivals::{piece, put_line};
-use nv_script::read;
+use nv_script::{piece, put_line, read};
 use std::test::Fail;
 
 // What comes, as it may be written, and as it is written again.

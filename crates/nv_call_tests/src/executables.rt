@@ -3,9 +3,8 @@ ghost use Rattle.std.specs.Prelude.{◌≤◌, ◌↔◌, IsTrue};
 ghost use Rattle.nv_elf.specs.Elf.{executable_of};
 ghost use Rattle.nv_elf.specs.Written.{range_bytes};
 
-use nv_bytes::put_u32;
+use nv_bytes::{put_u32, unhex};
 use nv_elf::{ElfFault, Program, Segment, read, write};
-use nv_text::unhex;
 use std::alloc::Global;
 use std::process::Abort;
 use std::test::Fail;

@@ -1,5 +1,5 @@
 use nv_calls::{CLONE, EXIT};
-use nv_lanes::Lanes;
+use nv_room::Lanes;
 
 const GETUID: u32 = 174;
 

@@ -1,5 +1,5 @@
 // Values from outside.
-use nv_text::{decimal, hex_pair, number, unhex};
+use nv_bytes::{decimal, hex_pair, number, unhex};
 use std::alloc::Global;
 use std::test::Fail;
 

@@ -1,4 +1,4 @@
-use nv_places::Spot;
+use nv_room::Spot;
 
 // One station: the words of its owner, head and cursor are 24. Eight lanes of two places of six words are 96, then come 12 chunks.
 #[test]

@@ -1,3 +1,4 @@
+pub mod LearningLaws
 pub mod SameLaws
 pub mod ShapeLaws
 pub mod LogLaws

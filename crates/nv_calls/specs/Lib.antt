@@ -1,3 +1,4 @@
+pub mod Learning
 pub mod Held
 pub mod Limits
 pub mod Errors

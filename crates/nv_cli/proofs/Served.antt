@@ -3,9 +3,9 @@ use Rattle.std.proofs.Common.{◌≡◌, ◌∙◌, refl, sym, ap, subst, ℕ, B
 use Rattle.std.specs.List.{All, list_all}
 use Rattle.std.specs.Result.{is_ok}
 use Rattle.std.proofs.lemmas.Bool.{and_parts}
-use Rattle.nv_arrivals.specs.Arrivals.{Arrival, is_arrival, BringsBytes}
-use Rattle.nv_arrivals.specs.Order.{most_clients, are_orderly, are_arrivals}
-use Rattle.nv_arrivals.specs.Doings.{Doing, takings, sayings, handings}
+use Rattle.nv_script.specs.Arrivals.{Arrival, is_arrival, BringsBytes}
+use Rattle.nv_script.specs.Order.{most_clients, are_orderly, are_arrivals}
+use Rattle.nv_script.specs.Doings.{Doing, takings, sayings, handings}
 use Rattle.nv_arriving.specs.Arriving.{first_stage, start_of_arrivals, Satisfied}
 use Rattle.nv_arriving.specs.Doings.{doings}
 use Rattle.nv_arriving.specs.Kernel.{Coming}

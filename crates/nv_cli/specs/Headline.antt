@@ -72,16 +72,16 @@ use Rattle.nv_calls.specs.Logs.{made, child_of, with_child, live_next, live_from
 use Rattle.nv_calls.specs.Numbers.{CLONE, EXIT, EXIT_GROUP, Row, row, table, syscall_in, syscall_of, slots_by, has_range, is_of_threads, is_local, is_later}
 use Rattle.nv_calls.specs.Profiles.{bare, in_profile}
 use Rattle.nv_calls.specs.Shapes.{is_plain, are_plain, kept_slots, most_of_vectors, is_capacity, is_path, is_timed, is_payload, is_shaped_as, is_shaped}
-use Rattle.nv_script.specs.Entry.{Entry as nv_script_Entry, form_of, is_fifth, is_printable as nv_script_is_printable, is_argument, is_file_byte, is_dots, is_file_name, entry_kinds, in_form, kind_of, shaped, argument_entry, file_with, file_entry, clock_fits, clock_entry, clock_with, clock_of, is_hand, hand_entry, hand_with, is_port as nv_script_is_port, connection_entry, connection_with, connection_of, entry_by, entry_with, is_passed_over, cause_of, arrives, begins_arrival, entry_of}
+use Rattle.nv_script.specs.Arrivals.{Arrival, is_sized, is_port, is_nanos, is_arrival, AreBytes, BringsBytes}
+use Rattle.nv_script.specs.Doings.{Said, Doing, takings, sayings, handings}
+use Rattle.nv_script.specs.Entry.{Entry as nv_script_Entry, form_of, is_fifth, is_printable, is_argument, is_file_byte, is_dots, is_file_name, entry_kinds, in_form, kind_of, shaped, argument_entry, file_with, file_entry, clock_fits, clock_entry, clock_with, clock_of, is_hand, hand_entry, hand_with, is_port as nv_script_is_port, connection_entry, connection_with, connection_of, entry_by, entry_with, is_passed_over, cause_of, arrives, begins_arrival, entry_of}
 use Rattle.nv_script.specs.HandLines.{hand_line}
+use Rattle.nv_script.specs.Order.{most_clients, Came, nothing_came, input_going, input_ended, clients_ended, with_client, is_going, not_going, sending, without as nv_script_without, client_ended, admitted, onward, after, are_orderly, are_arrivals}
+use Rattle.nv_script.specs.Pieces.{cut_after, pieces, input_of}
+use Rattle.nv_script.specs.Reading.{words as nv_script_words, word_of, is_word, is_timeless, is_timeless_word, sized, bytes_of as nv_script_bytes_of, line_arrival, input_with, connect_with, data_with, data_parts, data_in, end_with, end_of, time_with, time_parts, time_in, arrival_by, arrival_with, arrival_of}
 use Rattle.nv_script.specs.Scripts.{Named, Incoming, Setup, Draft, blank, has_name, with_argument, with_input, with_named_file, with_clock, with_seed, has_hand, with_hand, with_connection, with_came, with_arrival, with_entry, with_result, with_script_line, onward as nv_script_onward, drafted, no_clock, setup_with, finished, finished_result, no_form, script_in, script_of_lines, script_of}
 use Rattle.nv_script.specs.Texts.{cause_word, script_fault_text}
-use Rattle.nv_arrivals.specs.Arrivals.{Arrival, is_sized, is_port, is_nanos, is_arrival, AreBytes, BringsBytes}
-use Rattle.nv_arrivals.specs.Doings.{Said, Doing, takings, sayings, handings}
-use Rattle.nv_arrivals.specs.Order.{most_clients, Came, nothing_came, input_going, input_ended, clients_ended, with_client, is_going, not_going, sending, without as nv_arrivals_without, client_ended, admitted, onward, after, are_orderly, are_arrivals}
-use Rattle.nv_arrivals.specs.Pieces.{cut_after, pieces, input_of}
-use Rattle.nv_arrivals.specs.Reading.{words as nv_arrivals_words, word_of, is_word, is_timeless, is_timeless_word, sized, bytes_of as nv_arrivals_bytes_of, line_arrival, input_with, connect_with, data_with, data_parts, data_in, end_with, end_of, time_with, time_parts, time_in, arrival_by, arrival_with, arrival_of}
-use Rattle.nv_arrivals.specs.Writing.{is_printable, front, is_line, input_text, line_text}
+use Rattle.nv_script.specs.Writing.{is_printable as nv_script_is_printable, front, is_line, input_text, line_text}
 use Rattle.nv_live.specs.Clients.{clients_text}
 use Rattle.nv_live.specs.ComingLines.{is_plain as nv_live_is_plain, is_comment, is_hand as nv_live_is_hand, is_passed, says, text_of, Say, IsWhole, is_beyond, cause_next, cause_by, IsRefused, StopsAt, Come}
 use Rattle.nv_live.specs.Lines.{parts_after, parts, line_with as nv_live_line_with, lines_with, held_text}
@@ -91,8 +91,8 @@ use Rattle.nv_live.specs.SaidLines.{head_of, said_lines}
 use Rattle.nv_live.specs.Source.{Gave, Reads, faults_by_read, Moment, moment_of, Asked}
 use Rattle.nv_live.specs.Taking.{faults_by_stop, is_plain_stop, Took}
 use Rattle.nv_live.specs.Transcript.{hand_text, note_of, notes_on}
-use Rattle.nv_blocks.specs.Contents.{with_bytes}
 use Rattle.nv_fs.specs.Closes.{with_descriptor, close_open, close_of, free_descriptor, shared_at, share, dup_open, dup_of, dup_onto, dup3_of}
+use Rattle.nv_fs.specs.Contents.{with_bytes}
 use Rattle.nv_fs.specs.Ends.{free_pipe, with_empty, with_ends, free_above, pipe_on, pipe_from, pipe_of}
 use Rattle.nv_fs.specs.Fetched.{hand_out, read_input, read_file, pipe_at, with_pipe, read_pipe, read_target, read_open, read_of}
 use Rattle.nv_fs.specs.Names.{Resolved, is_cwd, is_open_at, is_absolute, name_in, is_named, file_of, component_of, name_of, resolved}
@@ -176,8 +176,8 @@ use Rattle.nv_bpf_asm.specs.Faults.{rule_word, rules_text}
 use Rattle.nv_bpf_asm.specs.Statements.{Statement as nv_bpf_asm_Statement, forms, after_prefix, closed as nv_bpf_asm_closed, constant, between, of_event, plain, sum_of, return_of, load_of as nv_bpf_asm_load_of, load_index_of, jump_of as nv_bpf_asm_jump_of, choice_of, branch_of as nv_bpf_asm_branch_of, formed as nv_bpf_asm_formed, stated as nv_bpf_asm_stated, statement as nv_bpf_asm_statement}
 use Rattle.nv_gen.specs.Made.{Numbers, numbers_of, Call, Ending, Course, write_text, calls_getuid, calls_at as nv_gen_calls_at, calls_to, course, courses_to, script, rules, Totals, named_number, summary}
 use Rattle.nv_gen.specs.Programs.{sets, points, ecall, ebreak, write_insns, getuid_insns, exit_insns, insns_of, last_insns, insns, insn_bytes, code_of, block, segment_bytes, course_range, program, programs_to, programs}
-use Rattle.nv_text.specs.Fields.{is_space, is_not_space, first_word, without_first, rest_of, fields}
-use Rattle.nv_text.specs.Lines.{is_newline, lines, line_number, is_blank, is_not_blank, trim_start, trim_end, trim, is_comma, operands_of, operands, is_letter, is_digit, is_name_byte, begins_name, is_name, Parts, prefix, rest_after, line_with, after_name, parted, line_of}
-use Rattle.nv_text.specs.Names.{defined, defining, definitions, or_later, first_fault}
-use Rattle.nv_text.specs.Numbers.{number_of, decimal_of, paired, unhexed, hex_pair_of, hex_of}
-use Rattle.nv_bytes.specs.Fields.{field_at}
+use Rattle.nv_bytes.specs.Fields.{is_space, is_not_space, first_word, without_first, rest_of, fields}
+use Rattle.nv_bytes.specs.Lines.{is_newline, lines, line_number, is_blank, is_not_blank, trim_start, trim_end, trim, is_comma, operands_of, operands, is_letter, is_digit, is_name_byte, begins_name, is_name, Parts, prefix, rest_after, line_with, after_name, parted, line_of}
+use Rattle.nv_bytes.specs.LittleEndian.{field_at}
+use Rattle.nv_bytes.specs.Names.{defined, defining, definitions, or_later, first_fault}
+use Rattle.nv_bytes.specs.Numbers.{number_of, decimal_of, paired, unhexed, hex_pair_of, hex_of}

@@ -9,10 +9,10 @@ ghost use Rattle.nv_workers.specs.Ends.{IsAccount};
 ghost use Rattle.nv_cli.specs.inner.Demands.{IsAccountOnDemand};
 
 use nv_bpf::Filter;
+use nv_calls::SyscallKernel;
 use nv_command::Limits;
 use nv_replay::{Account, Version};
 use nv_room::Room;
-use nv_served::SyscallKernel;
 use nv_workers::{Gate, Stock, Terms, end, run_staffed};
 use std::alloc::{AllocError, Global};
 use std::sync::Wait;

@@ -12,7 +12,6 @@ ghost use Rattle.nv_driver.specs.Outcome.{NoMemory, source_of, text_of};
 ghost use Rattle.nv_cli.specs.inner.Serving.{IsBegunOver, IsUnused, IsReadyToServe, HasLeft, RanOver, ServeSays};
 
 use crate::beside::run_on_demand;
-use nv_arrivals::Outside;
 use nv_arriving::{ArrivingKernel, arriving, into_outside};
 use nv_bpf::Filter;
 use nv_command::{Limits, Service};
@@ -22,7 +21,7 @@ use nv_driver::{
 use nv_live::{LiveRun, ReadBeside, Streams, Telling};
 use nv_outside::{Files, Sink};
 use nv_replay::{Account, Version};
-use nv_script::Script;
+use nv_script::{Outside, Script};
 use nv_workers::Gate;
 use std::alloc::Global;
 use std::sync::Wait;

@@ -29,6 +29,7 @@ use crate::recording::record;
 use crate::serving::{Left, serve};
 use nv_arriving::{ScriptedKernel, connections};
 use nv_bpf::Filter;
+use nv_calls::{Recorded, SyscallKernel};
 use nv_command::{Command, Limits, Run};
 use nv_driver::{
     Ending, MEMORY, Prepared, Task, answer_alone, count_exited, ended, generate, prepare, put_line,
@@ -38,7 +39,6 @@ use nv_gen::Totals;
 use nv_live::{ReadBeside, Streams};
 use nv_outside::{Files, Put, Sink, put_pieces};
 use nv_replay::{Account, Version};
-use nv_served::{Recorded, SyscallKernel};
 use nv_sockets::put_connections;
 use nv_workers::Gate;
 use std::alloc::Global;

@@ -3,7 +3,7 @@ use Rattle.std.proofs.Common.{◌≡◌, ℕ, ◌≤◌, List, Option, Some, Non
 use Rattle.std.specs.Prelude.{◌&&◌, nat_le, if◌then◌else◌, option_map, codes}
 use Rattle.std.proofs.lemmas.Bool.Decides.{nat_tests}
 use Rattle.clap.specs.Walk.{Row, Text, first_of}
-use Rattle.nv_text.specs.Numbers.{number_of}
+use Rattle.nv_bytes.specs.Numbers.{number_of}
 use Rattle.nv_command.specs.Simple.{gen_app}
 use Rattle.nv_command.specs.Words.{Name, NamesRun, NamesServe, NamesRules, NamesAsm, NamesGen, NamesRecord, NamesReplay, NamesInspect, NamesHelp, Plan, Service, Job, Trail, Look, Runs, Serves, Uses, Generates, Records, Replays, Inspects, Helps, number_between, number_in, rows_of_line, run_line, serve_line, rules_line, asm_line, gen_line, record_line, replay_line, inspect_line, help_line, asked_by, after_program, command_of, command_name}
 

@@ -7,7 +7,7 @@ use Rattle.clap.specs.Walk.{Row, Text, all_of, first_of}
 use Rattle.clap.specs.Simple.{App, matches_of}
 use Rattle.clap.specs.Kinds.{Kinds}
 use Rattle.clap.specs.Faults.{fault_of}
-use Rattle.nv_text.specs.Numbers.{number_of}
+use Rattle.nv_bytes.specs.Numbers.{number_of}
 use Rattle.nv_command.specs.Simple.{run_app, serve_app, record_app, replay_app, inspect_app, rules_app, asm_app, gen_app, help_app}
 use Rattle.nv_command.specs.declared.asked.Tool.{Tool}
 use Rattle.nv_command.specs.declared.asked.Tool.TheVariants.{CheckRules, AssembleRules, Assemble}

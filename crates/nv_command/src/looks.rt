@@ -24,8 +24,8 @@ fn point_from(stamp: Option<&str>, call: Option<&str>, count: Option<&str>) -> O
     ensures fits { IfSome result (λ point. (n : ℕ) → point ≡ Point.Count n → (1 ≤ n) × (n ≤ 1000000000)) }
 {
     match (stamp, call, count) {
-        (Some(stamp), None, None) => Some(Point::Stamp(nv_text::number(stamp.as_bytes())?)),
-        (None, Some(call), None) => Some(Point::Call(nv_text::number(call.as_bytes())?)),
+        (Some(stamp), None, None) => Some(Point::Stamp(nv_bytes::number(stamp.as_bytes())?)),
+        (None, Some(call), None) => Some(Point::Call(nv_bytes::number(call.as_bytes())?)),
         (None, None, Some(count)) => Some(Point::Count(number_between(1, MOST_COUNT, count)?)),
         _ => None,
     }
@@ -49,7 +49,7 @@ fn range(address: &str, length: &str) -> Option<(u32, u32)>
     ensures range { result ≡ range_of address.now length.now }
     ensures fits { IfSome result (λ range. (1 ≤ range.1) × (range.1 ≤ 4096) × (range.0 + range.1 ≤ 4294967295)) }
 {
-    let address = nv_text::number(address.as_bytes())?;
+    let address = nv_bytes::number(address.as_bytes())?;
     let length = number_between(1, MOST_LENGTH, length)?;
     if length <= u32::MAX - address {
         Some((address, length))

@@ -17,7 +17,7 @@ pub fn number_between(least: u32, most: u32, text: &str) -> Option<u32>
     ensures number { result ≡ number_between least most text.now }
     ensures range { IfSome result (λ number. (least ≤ number) × (number ≤ most)) }
 {
-    let number = nv_text::number(text.as_bytes())?;
+    let number = nv_bytes::number(text.as_bytes())?;
     if least <= number && number <= most {
         Some(number)
     } else {

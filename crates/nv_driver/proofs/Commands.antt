@@ -8,7 +8,7 @@ use Rattle.nv_driver.specs.Live.{Streams, Unserved, with_arrivals, with_hands}
 use Rattle.nv_driver.specs.Account.{IsRunOf, run_status}
 use Rattle.nv_driver.specs.declared.ending.Ending.{Ending}
 use Rattle.nv_driver.specs.declared.ending.Ending.TheVariants.{Finished}
-use Rattle.nv_arrivals.specs.Arrivals.{Arrival}
+use Rattle.nv_script.specs.Arrivals.{Arrival}
 use Rattle.nv_replay.specs.Sequence.{Account}
 use Rattle.nv_driver.specs.Prepared.{Prepared, Ready}
 use Rattle.nv_driver.specs.Prepared as prep

@@ -16,7 +16,7 @@ use Rattle.nv_driver.specs.Prepared.{Prepared, Unreadable, Refused, Ready, prepa
 use Rattle.nv_driver.specs.Live.{Streams, Lived, Unserved, AreLiveFound, live_prepared, live_finds_of, with_arrivals, with_hands}
 use Rattle.nv_driver.specs.declared.ending.Ending.{Ending}
 use Rattle.nv_driver.specs.declared.ending.Ending.TheVariants.{Finished}
-use Rattle.nv_arrivals.specs.Arrivals.{Arrival}
+use Rattle.nv_script.specs.Arrivals.{Arrival}
 use Rattle.nv_driver.specs.Generated.{IsMadeRun}
 use Rattle.nv_driver.specs.Made.{made_of}
 use Rattle.nv_driver.specs.Outcome.{Outcome, Usage, NoMemory, NotRead, NotAccepted, Reported, Made, Summed, Recorded, Replayed, Shown, Helped, Served, Source, name_at, limit_at, name_in, name_on, limit_on, text_of, outcome_status, ended_with}

@@ -1,8 +1,8 @@
 -- A live run: what its files come to, and what it does over standard input, standard output and its transcript.
 use Rattle.std.specs.Prelude.{◌≡◌, ◌⊎◌, ℕ, ◌+◌, ◌-◌, Bool, true, false, not, ◌==◌, List, [], ◌∷◌, ◌++◌, Option, None, Some, option_map, IsSome, Result, Ok, Err, if◌then◌else◌, codes, length, drop, map, get_or}
 use Rattle.std.specs.List.{All, prefix_len}
-use Rattle.nv_arrivals.specs.Arrivals.{Arrival, BringsBytes}
-use Rattle.nv_arrivals.specs.Doings.{Doing, takings, sayings, handings}
+use Rattle.nv_script.specs.Arrivals.{Arrival, BringsBytes}
+use Rattle.nv_script.specs.Doings.{Doing, takings, sayings, handings}
 use Rattle.nv_arriving.specs.Arriving.{first_stage, Satisfied}
 use Rattle.nv_arriving.specs.Doings.{doings}
 use Rattle.nv_arriving.specs.Telling.{taken_before, are_at_most}

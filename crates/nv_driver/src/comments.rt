@@ -11,11 +11,11 @@ ghost use Rattle.nv_driver.specs.Comments.{Ended, LetGo, Leads, Rewrites, Made, 
 
 use crate::ending::Ending;
 use itoa::Buffer;
-use nv_arrivals::ArrivalCause;
 use nv_calls::Event;
 use nv_outside::{MemorySink, Put, Sink, put_all, put_pieces};
 use nv_replay::Fate;
 use nv_report::{put_event, put_fate};
+use nv_script::ArrivalCause;
 use std::alloc::Global;
 
 // The most bytes of a comment: an event's has two digits for each byte that it hands in or out.

@@ -4,9 +4,9 @@ ghost use Rattle.nv_driver.specs.Live.{ended_by_writes, ending_of};
 ghost use Rattle.nv_driver.specs.Outcome.{ending_status};
 
 use crate::endings::{INPUT, READ_FAULT, WRITE_FAULT};
-use nv_arrivals::ArrivalCause;
 use nv_live::Stopped;
 use nv_outside::{Put, WriteFailed};
+use nv_script::ArrivalCause;
 
 /// How a live run ended, beside what its versions came to.
 #[derive(Clone, Copy, Debug, PartialEq, Eq)]

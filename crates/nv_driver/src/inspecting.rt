@@ -19,10 +19,10 @@ ghost use Rattle.nv_driver.specs.Tracing.{trace_point};
 use crate::endings::{MEMORY, ended, put_line};
 use crate::refusing::refuse_trail;
 use crate::trails::{TracedVersion, trace_version};
+use nv_calls::SyscallKernel;
 use nv_command::Look;
 use nv_inspect::{TracePoint, bring, kernel_after, show};
 use nv_outside::{Files, Sink};
-use nv_served::SyscallKernel;
 use std::alloc::Global;
 
 fn point(look: &Look<'_>) -> TracePoint

@@ -4,7 +4,7 @@ use Rattle.std.specs.List.{list_all}
 use Rattle.std.proofs.lemmas.Bool.{and_parts}
 use Rattle.std.proofs.lemmas.Bool.Decides.{nat_tests}
 use Rattle.byteorder.specs.Numbers.{little_number-reads_back}
-use Rattle.nv_bytes.specs.Fields.{field_at}
+use Rattle.nv_bytes.specs.LittleEndian.{field_at}
 use Rattle.nv_elf.specs.declared.header.ProgramHeader.{ProgramHeader}
 use Rattle.nv_elf.specs.Elf.{Range, Executable, elf_of, Accepted, file_fault, table_fault, loadables_fault, has_magic, has_class, has_versions, has_table, headers_of, loadables_of, entry_at, is_loadable, range_in, range_extent, overlap_from, can_be_entry}
 use Rattle.nv_elf.specs.Written.{is_program, is_sound, range_bytes, file_header, table_from, contents_from, contents_at, end_from, elf_bytes}

@@ -10,7 +10,7 @@ use Rattle.std.proofs.lemmas.List.{drop_at, take_at, length-replicate}
 use Rattle.std.proofs.lemmas.List.Sums.{sum_by-cons}
 use Rattle.byteorder.specs.Endian.{little_bytes}
 use Rattle.byteorder.specs.Numbers.{little_number-reads_back}
-use Rattle.nv_bytes.specs.Fields.{field_at}
+use Rattle.nv_bytes.specs.LittleEndian.{field_at}
 use Rattle.nv_bytes.proofs.FieldLaws.{field_at-append}
 use Rattle.nv_elf.specs.declared.header.ProgramHeader.{ProgramHeader}
 use Rattle.nv_elf.specs.Elf.{Range, Extent, header_at, headers_from, is_loadable, is_interpreted, is_outside, extent_of, range_extent, shares, overlap_from, holds_entry, can_be_entry, range_in}

@@ -1,3 +1,4 @@
+pub mod Bytes
 pub mod FewLaws
 pub mod Least
 pub mod Lengths

@@ -5,7 +5,7 @@ use Rattle.std.specs.Global.{Vec}
 use Rattle.std.specs.Vec.{with_item}
 use Rattle.std.specs.Prelude.{vec_capacity, slice_index, nat_lt}
 use Rattle.std.proofs.lemmas.List.{map-set, get_or-map, set-get_or, get_or-set_same, length-set, length-map, map_push}
-use Rattle.nv_blocks.specs.Contents.{Content}
+use Rattle.nv_fs.specs.Contents.{Content}
 use Rattle.nv_fs.specs.declared.disk.MemoryFile.{MemoryFile}
 use Rattle.nv_fs.specs.declared.disk.FileSystem.TheInside.{Inside}
 use Rattle.nv_fs.specs.States.{FileState, Inode, file_at, with_at}

@@ -1,3 +1,4 @@
+pub mod Contents
 pub mod States
 pub mod Closes
 pub mod Seeks

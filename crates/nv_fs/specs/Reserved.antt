@@ -1,6 +1,6 @@
 -- The memory that was taken in advance: what a call that grows a table needs of it.
 use Rattle.std.specs.Prelude.{ℕ, ◌+◌, ◌-◌, min, ◌≤◌, ◌<◌, Bool, List, [], length, Option, Some, None, slice_index, slice_index_or}
-use Rattle.nv_blocks.specs.Contents.{HoldsRange}
+use Rattle.nv_fs.specs.Contents.{HoldsRange}
 use Rattle.nv_fs.specs.declared.open_file.OpenFile.{OpenFile}
 use Rattle.nv_fs.specs.declared.open_file.Target.{Target}
 use Rattle.nv_fs.specs.declared.open_file.Target.TheVariants.{Console, File, Writer}

@@ -6,7 +6,7 @@ use Rattle.nv_fs.specs.declared.open_file.Target.TheVariants.{Console, File, Rea
 use Rattle.nv_calls.specs.Answer.{Answer, answer, only}
 use Rattle.nv_calls.specs.Errors.{EBADF, EAGAIN, EFBIG, ENOSPC, EPIPE}
 use Rattle.nv_fs.specs.States.{FileState, file_at, open_of, has_open, moved_to}
-use Rattle.nv_blocks.specs.Contents.{with_bytes}
+use Rattle.nv_fs.specs.Contents.{with_bytes}
 use Rattle.nv_fs.specs.Seeks.{bytes_of}
 use Rattle.nv_fs.specs.Fetched.{pipe_at, with_pipe}
 

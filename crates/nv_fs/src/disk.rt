@@ -4,8 +4,8 @@ ghost use Rattle.nv_fs.specs.Views.{inode_of};
 ghost use Rattle.nv_fs.specs.States.{is_open};
 ghost use Rattle.nv_fs.specs.Starts.{first_state, first_descriptors, first_opens, inode_from, console_limit};
 
+use crate::blocks::Blocks;
 use crate::open_file::{OpenFile, Target};
-use nv_blocks::Blocks;
 use nv_calls::MOST_BYTES;
 use nv_past::Past;
 use std::alloc::{AllocError, Global};

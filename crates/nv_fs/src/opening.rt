@@ -7,10 +7,10 @@ ghost use Rattle.nv_fs.specs.Stored.{with_content};
 ghost use Rattle.nv_fs.specs.Kept.{KeepsBlocks};
 ghost use Rattle.nv_fs.specs.Reserved.{CanOpen, HasOpens};
 
+use crate::Blocks;
 use crate::disk::{FileSystem, MemoryFile};
 use crate::open_file::{OpenFile, Target};
 use crate::parts::append;
-use nv_blocks::Blocks;
 use nv_calls::errors::{EEXIST, EINVAL, EMFILE, ENOENT, ENOSPC};
 use std::alloc::AllocError;
 use std::mem;

@@ -1,6 +1,6 @@
 // write.
 ghost use Rattle.std.specs.Prelude.{◌≡◌, ℕ, ◌+◌, ◌-◌, ◌≤◌, ◌<◌, ◌^◌, [], ◌++◌, min, length, slice_index, OnOk};
-ghost use Rattle.nv_blocks.specs.Contents.{with_bytes};
+ghost use Rattle.nv_fs.specs.Contents.{with_bytes};
 ghost use Rattle.nv_calls.specs.Answer.{answer};
 ghost use Rattle.nv_fs.specs.Seeks.{bytes_of};
 ghost use Rattle.nv_fs.specs.Fetched.{pipe_at, with_pipe};

@@ -1,8 +1,8 @@
 -- The script and the rules are read.
 use Rattle.std.proofs.Common.{◌≡◌, Ok, refl}
-use Rattle.nv_text.specs.Fields.{fields}
-use Rattle.nv_text.specs.Lines.{lines}
-use Rattle.nv_text.specs.Numbers.{number_of}
+use Rattle.nv_bytes.specs.Fields.{fields}
+use Rattle.nv_bytes.specs.Lines.{lines}
+use Rattle.nv_bytes.specs.Numbers.{number_of}
 use Rattle.nv_bpf.specs.Actions.{actions, action_of}
 use Rattle.nv_bpf.specs.Texts.{field, op_of, ops_of, ops_of_text, filter_of}
 use Rattle.nv_bpf.specs.Verified.{op_fault, ops_fault, list_fault}

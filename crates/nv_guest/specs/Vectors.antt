@@ -1,6 +1,6 @@
 -- The vectors of readv and writev (Linux readv(2)): each an address and a length, of four bytes each in order.
 use Rattle.std.specs.Prelude.{ℕ, zero, suc, ◌+◌, ◌-◌, ◌^◌, ◌&&◌, List, [], ◌∷◌, ◌++◌, Option, Some, None, option_map, if◌then◌else◌, ◌==◌, nat_lt, min}
-use Rattle.nv_bytes.specs.Fields.{field_at}
+use Rattle.nv_bytes.specs.LittleEndian.{field_at}
 use Rattle.nv_memory.specs.declared.region.Right.{Right}
 use Rattle.nv_memory.specs.declared.region.Right.TheVariants.{Read}
 use Rattle.nv_memory.specs.Bytes.{bytes_at}

@@ -14,7 +14,7 @@ use Rattle.nv_fs.specs.declared.telling.Opened.{Opened}
 use Rattle.nv_fs.specs.declared.telling.Opened.TheVariants.{Closed, Input, Console, File, PipeRead, PipeWrite}
 use Rattle.nv_replay.specs.declared.fate.Fate.{Fate}
 use Rattle.nv_replay.specs.Follow.{Follower}
-use Rattle.nv_text.specs.Numbers.{hex_pair_of, hex_of}
+use Rattle.nv_bytes.specs.Numbers.{hex_pair_of, hex_of}
 use Rattle.nv_report.specs.Versions.{fate_text}
 use Rattle.nv_inspect.specs.Firsts.{texts_below}
 

@@ -6,8 +6,8 @@ ghost use Rattle.nv_arriving.specs.Scripted.{start_from};
 ghost use Rattle.nv_trace.specs.Checks.{AreSoundEvents};
 
 use nv_arriving::ScriptedKernel;
+use nv_calls::{Recorded, SyscallKernel};
 use nv_script::Script;
-use nv_served::{Recorded, SyscallKernel};
 use std::alloc::{AllocError, Global};
 
 /// A kernel over the same script that has served the first events alone, so many of those that this one has served.

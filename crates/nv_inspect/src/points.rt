@@ -7,9 +7,8 @@ ghost use Rattle.nv_replay.specs.Version.{IsFresh};
 ghost use Rattle.nv_inspect.specs.Points.{place_of, events_to};
 
 use nv_bpf::Filter;
-use nv_calls::Event;
+use nv_calls::{Event, Recorded, SyscallKernel};
 use nv_replay::{Version, follow_all};
-use nv_served::{Recorded, SyscallKernel};
 
 /// A point of a log for a version that follows it.
 #[derive(Clone, Copy, Debug, PartialEq, Eq)]

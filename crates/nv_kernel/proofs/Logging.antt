@@ -4,8 +4,8 @@ use Rattle.std.specs.Prelude.{Bool, ◌==◌, Contains}
 use Rattle.nv_calls.specs.Calls.{Request, Entry}
 use Rattle.nv_calls.specs.Logs.{Start, IsLawful, IsLegal, InRange, IsNew, served, child_of, live_after, last_status, ended_after}
 use Rattle.nv_calls.proofs.LogLaws.{lawful_more, legal_more, status_more}
-use Rattle.nv_served.specs.Learning.{GoesOn}
-use Rattle.nv_served.proofs.LearningLaws.{legal_on}
+use Rattle.nv_calls.specs.Learning.{GoesOn}
+use Rattle.nv_calls.proofs.LearningLaws.{legal_on}
 use Rattle.nv_kernel.specs.Ends.{end_next}
 use Rattle.nv_kernel.specs.Kernel.{Spare}
 use Rattle.nv_kernel.specs.Logged.{IsLogged}

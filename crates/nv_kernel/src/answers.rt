@@ -5,7 +5,7 @@ ghost use Rattle.nv_calls.specs.Calls.{Request, Entry, request};
 ghost use Rattle.nv_calls.specs.Limits.{MOST_BYTES};
 ghost use Rattle.nv_calls.specs.Logs.{Start, live_after, output_of};
 ghost use Rattle.nv_calls.specs.Shapes.{IsShaped};
-ghost use Rattle.nv_served.specs.Learning.{GoesOn};
+ghost use Rattle.nv_calls.specs.Learning.{GoesOn};
 ghost use Rattle.nv_script.specs.Scripts.{Setup, is_script};
 ghost use Rattle.nv_script.specs.Views.{setup_of};
 ghost use Rattle.nv_kernel.specs.Answering.{MayCome, IsAnswer};

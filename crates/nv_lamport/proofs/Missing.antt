@@ -3,7 +3,7 @@ use Rattle.std.proofs.Common.{◌≡◌, ℕ, ◌+◌, ◌<◌, true, false, Lis
 use mathlib.Core.Logic.{dite}
 use native.Mathlib.Decide.{ℕ_discrete}
 use Rattle.atomic_table.proofs.Lists.{at_longer, at_last}
-use Rattle.nv_lanes.specs.Lanes.{Taken, lives}
+use Rattle.nv_room.specs.Lanes.{Taken, lives}
 use Rattle.nv_room.specs.Room.{Has}
 
 -- one lane more

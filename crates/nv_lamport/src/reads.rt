@@ -4,8 +4,8 @@ ghost use Rattle.nv_room.specs.Kinds.{Stepped};
 ghost use Rattle.nv_room.specs.Seats.{IsOfRoom, SameReader, stations_of, view};
 ghost use Rattle.nv_lamport.specs.Polls.{HasRead, HasFound, IsPolled};
 
+use nv_calls::SyscallKernel;
 use nv_room::{Owner, Reader, Room};
-use nv_served::SyscallKernel;
 use nv_words::{EventBuf, Spelt};
 
 /// What a poll gave.

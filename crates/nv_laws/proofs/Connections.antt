@@ -17,8 +17,8 @@ use Rattle.nv_sockets.specs.declared.socket.Socket.{Socket}
 use Rattle.nv_sockets.specs.declared.socket.Socket.TheVariants.{Fresh, Bound, Listening, Connected}
 use Rattle.nv_sockets.specs.Sockets.{Link, Net, socket_at, on_socket, socket_of, is_size, port_in, is_used, bind_to, bind_socket, bind_of, listen_socket, listen_of, free_place, next_at, accept_next, accept_socket, are_flags, accept_flagged, accept_of, is_going, link_output, read_socket, with_output, write_link, write_socket, close_socket}
 use Rattle.nv_sockets.specs.Serving.{State, answered, unless_bad, or_own, serve, link_written, link_from}
-use Rattle.nv_arrivals.specs.Arrivals.{Arrival, Input, InputEnd, ClientsEnd, Connect, Data, End, Time}
-use Rattle.nv_arrivals.specs.Doings.{Said, Sent, Printed, sayings}
+use Rattle.nv_script.specs.Arrivals.{Arrival, Input, InputEnd, ClientsEnd, Connect, Data, End, Time}
+use Rattle.nv_script.specs.Doings.{Said, Sent, Printed, sayings}
 use Rattle.nv_arriving.specs.declared.timing.Until.{Until}
 use Rattle.nv_arriving.specs.Arrivals.{in_vain}
 use Rattle.nv_arriving.specs.Timing.{until_of}

@@ -16,8 +16,8 @@ use Rattle.nv_sockets.specs.declared.socket.Socket.{Socket}
 use Rattle.nv_sockets.specs.declared.socket.Socket.TheVariants as socket
 use Rattle.nv_sockets.specs.Sockets.{socket_at}
 use Rattle.nv_sockets.specs.Serving.{State, serve}
-use Rattle.nv_arrivals.specs.Arrivals.{Arrival, Input, InputEnd, ClientsEnd, Connect, Data, End, Time}
-use Rattle.nv_arrivals.specs.Doings.{Said, Sent, Printed, Takes, Says, sayings}
+use Rattle.nv_script.specs.Arrivals.{Arrival, Input, InputEnd, ClientsEnd, Connect, Data, End, Time}
+use Rattle.nv_script.specs.Doings.{Said, Sent, Printed, Takes, Says, sayings}
 use Rattle.nv_arriving.specs.declared.timing.Until.{Until}
 use Rattle.nv_arriving.specs.Arrivals.{in_vain}
 use Rattle.nv_arriving.specs.Timing.{until_of}

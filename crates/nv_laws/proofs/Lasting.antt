@@ -9,7 +9,7 @@ use Rattle.atomic_table.specs.Table.{State, Me, Step}
 use Rattle.atomic_table.proofs.Lists.{set_else}
 use Rattle.nv_calls.specs.Calls.{Entry}
 use Rattle.nv_words.proofs.SpellLaws.{prefix_length, prefix_same}
-use Rattle.nv_places.specs.Header.{owner_index, head_index, cursor_index}
+use Rattle.nv_room.specs.Header.{owner_index, head_index, cursor_index}
 use Rattle.nv_ring.specs.Places.{FitsAll}
 use Rattle.nv_room.specs.declared.view.View.{View}
 use Rattle.nv_room.specs.declared.view.Layout.{Layout}

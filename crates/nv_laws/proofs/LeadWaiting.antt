@@ -14,7 +14,7 @@ use Rattle.nv_room.specs.declared.view.View.{View}
 use Rattle.nv_room.specs.declared.view.Layout.{Layout}
 use Rattle.nv_room.specs.declared.view.Role.TheVariants.{Reader, Lead}
 use Rattle.nv_room.specs.Placement.{Log, word_place, pool_chunks, chunks_from}
-use Rattle.nv_places.specs.Header.{cursor_index}
+use Rattle.nv_room.specs.Header.{cursor_index}
 use Rattle.nv_room.proofs.Placement.{place_after, fits_later}
 use Rattle.nv_room.proofs.Seats.{open_near}
 use Rattle.nv_room.specs.Room.{cursor, IsLeading, Rule}

@@ -11,9 +11,9 @@ use Rattle.nv_calls.specs.Limits.{MOST_EVENTS}
 use Rattle.nv_calls.specs.Logs.{IsLawful, live_after}
 use Rattle.nv_words.specs.Begins.{Prefix}
 use Rattle.nv_words.specs.Spelling.{IsWhole, low, spell}
-use Rattle.nv_places.specs.Header.{owner_index, head_index, cursor_index}
-use Rattle.nv_places.specs.Logs.{lane, lanes_after}
-use Rattle.nv_places.specs.Stamps.{Lives}
+use Rattle.nv_room.specs.Header.{owner_index, head_index, cursor_index}
+use Rattle.nv_room.specs.Logs.{lane, lanes_after}
+use Rattle.nv_room.specs.Stamps.{Lives}
 use Rattle.nv_room.specs.declared.view.View.{View}
 use Rattle.nv_room.specs.declared.view.Layout.{Layout}
 use Rattle.nv_room.specs.declared.view.Role.TheVariants.{Reader, Lead, Opening, Leaving, Moving}

@@ -5,8 +5,8 @@ use lib.ListN.{get_elem?}
 use Rattle.atomic_table.specs.Table.{State, Me, Step}
 use Rattle.nv_calls.specs.Calls.{Entry}
 use Rattle.nv_calls.specs.Limits.{MOST_EVENTS}
-use Rattle.nv_places.specs.Header.{owner_index, head_index, cursor_index}
-use Rattle.nv_places.specs.Logs.{lanes_after}
+use Rattle.nv_room.specs.Header.{owner_index, head_index, cursor_index}
+use Rattle.nv_room.specs.Logs.{lanes_after}
 use Rattle.nv_room.specs.declared.view.View.{View}
 use Rattle.nv_room.specs.declared.view.Layout.{Layout}
 use Rattle.nv_room.specs.declared.view.Role.TheVariants.{Reader, Lead, Opening, Leaving, Moving}

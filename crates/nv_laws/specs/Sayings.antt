@@ -2,7 +2,7 @@
 use Rattle.std.specs.Prelude.{ℕ, ◌==◌, List, [], slice_index_or, if◌then◌else◌}
 use Rattle.std.specs.List.{flat_map}
 use Rattle.nv_calls.specs.Logs.{Written}
-use Rattle.nv_arrivals.specs.Doings.{Said, Accepted, Sent, Closed, Printed}
+use Rattle.nv_script.specs.Doings.{Said, Accepted, Sent, Closed, Printed}
 
 -- the bytes of this for connection j
 abbrev pub sent_bytes : ℕ → Said → List ℕ

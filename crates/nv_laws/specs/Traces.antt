@@ -5,7 +5,7 @@ use lib.ListN.{get_elem?}
 use Rattle.atomic_table.specs.Table.{State}
 use Rattle.nv_calls.specs.Calls.{Entry}
 use Rattle.nv_calls.specs.Limits.{MOST_EVENTS}
-use Rattle.nv_places.specs.Header.{owner_index, head_index}
+use Rattle.nv_room.specs.Header.{owner_index, head_index}
 use Rattle.nv_ring.specs.Places.{IsFull}
 use Rattle.nv_room.specs.declared.view.View.{View}
 use Rattle.nv_room.specs.declared.view.Layout.{Layout}

@@ -8,9 +8,9 @@ ghost use Rattle.nv_calls.specs.Limits.{MOST_EVENTS};
 ghost use Rattle.nv_calls.specs.Logs.{IsLawful, live_after};
 ghost use Rattle.nv_words.specs.Begins.{Prefix};
 ghost use Rattle.nv_words.specs.Spelling.{IsWhole, low, spell};
-ghost use Rattle.nv_places.specs.Header.{head_index, owner_index};
-ghost use Rattle.nv_places.specs.Logs.{lane, lanes_after};
-ghost use Rattle.nv_places.specs.Stamps.{Lives};
+ghost use Rattle.nv_room.specs.Header.{head_index, owner_index};
+ghost use Rattle.nv_room.specs.Logs.{lane, lanes_after};
+ghost use Rattle.nv_room.specs.Stamps.{Lives};
 ghost use Rattle.nv_room.specs.declared.view.View.{View};
 ghost use Rattle.nv_room.specs.declared.view.Layout.{Layout};
 ghost use Rattle.nv_room.specs.declared.view.Role.TheVariants.{Lead, Leaving, Moving, Opening, Reader};
@@ -27,7 +27,7 @@ ghost use Rattle.nv_laws.specs.Plays.{Does, MayDo};
 ghost use Rattle.nv_laws.specs.Traces.{NeedNotWait};
 ghost use Rattle.nv_laws.specs.Runs.{IsFair, IsRun, TakesTurns, Windows, all_left};
 
-use nv_served::SyscallKernel;
+use nv_calls::SyscallKernel;
 
 /// In each state of a room that meets its rule, each version's seat there and not all gone, some seat can get on.
 pub fn no_room_is_stuck<K: SyscallKernel>()

@@ -1,7 +1,7 @@
 // What holds of the reads of a source in memory.
 ghost use Rattle.std.specs.Prelude.{◌≡◌, ◌≤◌, List, [], Some, length};
 ghost use Rattle.std.specs.List.{All};
-ghost use Rattle.nv_arrivals.specs.Doings.{Doing};
+ghost use Rattle.nv_script.specs.Doings.{Doing};
 ghost use Rattle.nv_live.specs.Live.{DidInTurn, StoodIn};
 ghost use Rattle.nv_live.specs.MemorySource.{given_of, faults_of, moments_of};
 ghost use Rattle.nv_live.specs.declared.live.Live.{Live};

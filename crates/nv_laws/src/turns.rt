@@ -9,8 +9,8 @@ ghost use Rattle.nv_workers.specs.Terms.{AreOfRoom, judges_of};
 ghost use Rattle.nv_workers.specs.Views.{GoesBySteps, HasView};
 ghost use Rattle.nv_workers.specs.Worker.{Works};
 
+use nv_calls::SyscallKernel;
 use nv_room::Room;
-use nv_served::SyscallKernel;
 use nv_workers::{Gate, Terms, Turn, Worker};
 
 /// A turn of a worker. It leaves fewer turns than it found, or the worker's seat waits for another, as its views before and after show; and what

@@ -9,17 +9,17 @@ use Rattle.std.proofs.lemmas.List.Concat.{flat_map-append}
 use Rattle.std.proofs.lemmas.List.Elements.{filter-append}
 use Rattle.std.proofs.lemmas.List.Sums.{prefix_len_stops, sum_by-append, sum_by-cons}
 use Rattle.std.proofs.lemmas.List.Folds.{list_all-append, list_any-append, concat-append}
-use Rattle.nv_arrivals.specs.declared.arrival.ArrivalCause.{ArrivalCause}
-use Rattle.nv_arrivals.specs.Arrivals.{Arrival, is_arrival}
-use Rattle.nv_arrivals.specs.Order.{Came, most_clients, nothing_came, admitted, after}
-use Rattle.nv_arrivals.specs.Reading.{arrival_of}
-use Rattle.nv_arrivals.proofs.Orderly.{after-none, after-more}
+use Rattle.nv_script.specs.declared.arrival.ArrivalCause.{ArrivalCause}
+use Rattle.nv_script.specs.Arrivals.{Arrival, is_arrival}
+use Rattle.nv_script.specs.Order.{Came, most_clients, nothing_came, admitted, after}
+use Rattle.nv_script.specs.Reading.{arrival_of}
+use Rattle.nv_script.proofs.Orderly.{after-none, after-more}
 use Rattle.nv_outside.specs.Counts.{raised}
 use Rattle.nv_live.specs.declared.source.Read.{Read}
 use Rattle.nv_live.specs.declared.source.Read.TheVariants.{Count, Failed}
 use Rattle.nv_live.specs.declared.incoming.Stopped.{Stopped}
 use Rattle.nv_live.specs.declared.incoming.Stopped.TheVariants.{Ended, Refused, CutOff}
-use Rattle.nv_text.specs.Lines.{line_number}
+use Rattle.nv_bytes.specs.Lines.{line_number}
 use Rattle.nv_live.specs.Buffer.{Refills}
 use Rattle.nv_live.specs.ComingLines.{is_plain, is_comment, is_hand, is_passed, says, text_of, Say, stop_by_end, IsRefused, StopsAt, Come}
 use Rattle.nv_live.specs.Source.{Gave, faults_by_read}

@@ -1,8 +1,8 @@
 -- How what is done outside goes on: what is read, what is taken and what is said.
 use Rattle.std.proofs.Common.{◌≡◌, ℕ, List, [], ◌∷◌, ◌++◌, Option, None, append-nil, append_assoc, refl, sym, ap, subst, ◌∙◌, IsOk}
 use Rattle.std.proofs.lemmas.List.Concat.{flat_map-append}
-use Rattle.nv_arrivals.specs.Arrivals.{Arrival}
-use Rattle.nv_arrivals.specs.Doings.{Doing, Takes, Says, Hands, Said, takings, sayings, handings}
+use Rattle.nv_script.specs.Arrivals.{Arrival}
+use Rattle.nv_script.specs.Doings.{Doing, Takes, Says, Hands, Said, takings, sayings, handings}
 use Rattle.nv_outside.proofs.Writing.{puts-is, puts-nothing}
 use Rattle.nv_live.specs.declared.incoming.Incoming.{Incoming}
 use Rattle.nv_live.specs.declared.writer.Writer.{Writer}

@@ -1,6 +1,6 @@
 -- How what is done goes on in turn: the source is asked for more where all that was done stands in the sinks.
 use Rattle.std.proofs.Common.{◌≡◌, ℕ, false, is_some, List, [], ◌++◌, Option, None, Some, Ok, Err, append-nil, append_assoc, refl, sym, ap, subst, ◌∙◌}
-use Rattle.nv_arrivals.specs.Doings.{Doing}
+use Rattle.nv_script.specs.Doings.{Doing}
 use Rattle.nv_live.specs.declared.live.Live.{Live}
 use Rattle.nv_live.specs.declared.clients.Clients.{Clients}
 use Rattle.nv_live.specs.declared.coming_lines.ComingLines.{ComingLines}

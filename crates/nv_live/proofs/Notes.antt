@@ -4,12 +4,12 @@ use Rattle.std.specs.List.{All, list_all}
 use Rattle.std.specs.Result.{is_ok}
 use Rattle.std.proofs.lemmas.Bool.{and_parts, and_from}
 use Rattle.std.proofs.lemmas.List.Elements.{All-nil, All-cons, All-head, All-tail}
-use Rattle.nv_arrivals.specs.declared.arrival.ArrivalCause.{ArrivalCause}
-use Rattle.nv_arrivals.specs.Arrivals.{Arrival, is_arrival, BringsBytes}
-use Rattle.nv_arrivals.specs.Doings.{Doing, Takes, Says, Hands, takings, handings}
-use Rattle.nv_arrivals.specs.Order.{Came, most_clients, nothing_came, onward, after, are_orderly}
-use Rattle.nv_arrivals.specs.Writing.{line_text}
-use Rattle.nv_arrivals.proofs.Orderly.{after-append}
+use Rattle.nv_script.specs.declared.arrival.ArrivalCause.{ArrivalCause}
+use Rattle.nv_script.specs.Arrivals.{Arrival, is_arrival, BringsBytes}
+use Rattle.nv_script.specs.Doings.{Doing, Takes, Says, Hands, takings, handings}
+use Rattle.nv_script.specs.Order.{Came, most_clients, nothing_came, onward, after, are_orderly}
+use Rattle.nv_script.specs.Writing.{line_text}
+use Rattle.nv_script.proofs.Orderly.{after-append}
 use Rattle.nv_script.specs.HandLines.{planned_too}
 use Rattle.nv_script.specs.Scripts.{Setup, are_hands}
 use Rattle.nv_script.specs.Transcripts.{IsTranscript, continued_by}

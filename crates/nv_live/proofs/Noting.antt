@@ -1,8 +1,8 @@
 -- How the writing of texts goes on, and the lines of arrivals with one more.
 use Rattle.std.proofs.Common.{◌≡◌, ℕ, List, [], ◌∷◌, ◌++◌, Option, Ok, Err, IsOk, IsErr, codes, append-nil, append_assoc, sym, ap, refl, ◌∙◌}
 use Rattle.std.proofs.lemmas.List.Concat.{flat_map-append}
-use Rattle.nv_arrivals.specs.Arrivals.{Arrival}
-use Rattle.nv_arrivals.specs.Writing.{line_text}
+use Rattle.nv_script.specs.Arrivals.{Arrival}
+use Rattle.nv_script.specs.Writing.{line_text}
 use Rattle.nv_outside.specs.Sink.{Put, Puts}
 use Rattle.nv_outside.proofs.Writing.{puts-is, puts-then, puts-failed}
 use Rattle.nv_live.specs.declared.writer.Writer.{Writer}

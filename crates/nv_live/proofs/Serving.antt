@@ -1,8 +1,8 @@
 -- How what is done outside goes on in a run of many clients: what is read, what is taken and what is said.
 use Rattle.std.proofs.Common.{◌≡◌, ◌+◌, ℕ, true, List, [], ◌∷◌, ◌++◌, Option, append-nil, append_assoc, length, length-append, refl, sym, ap, subst, ◌∙◌, IsOk, arith}
 use Rattle.std.proofs.lemmas.List.Concat.{flat_map-append}
-use Rattle.nv_arrivals.specs.Arrivals.{Arrival}
-use Rattle.nv_arrivals.specs.Doings.{Doing, Takes, Says, Hands, Said, takings, sayings, handings}
+use Rattle.nv_script.specs.Arrivals.{Arrival}
+use Rattle.nv_script.specs.Doings.{Doing, Takes, Says, Hands, Said, takings, sayings, handings}
 use Rattle.nv_outside.proofs.Writing.{puts-is, puts-nothing}
 use Rattle.nv_live.specs.declared.coming_lines.ComingLines.{ComingLines}
 use Rattle.nv_live.specs.declared.writer.Writer.{Writer}

@@ -1,7 +1,7 @@
 -- What a live run shows in the end of what was done.
 use Rattle.std.proofs.Common.{◌≡◌, ℕ, Bool, true, false, List, [], ◌++◌, Option, None, Some, refl, sym, ap, ◌∙◌, subst, append-nil, Ok, Err, IsOk, length}
-use Rattle.nv_arrivals.specs.Doings.{Doing, takings, sayings, handings}
-use Rattle.nv_arrivals.specs.Order.{Came, most_clients, nothing_came}
+use Rattle.nv_script.specs.Doings.{Doing, takings, sayings, handings}
+use Rattle.nv_script.specs.Order.{Came, most_clients, nothing_came}
 use Rattle.nv_outside.specs.Sink.{Put, Puts}
 use Rattle.nv_live.specs.declared.incoming.Stopped.{Stopped}
 use Rattle.nv_live.specs.declared.run.LiveRun.{LiveRun}

@@ -7,12 +7,12 @@ use Rattle.std.proofs.lemmas.Bool.Decides.{nat_tests}
 use Rattle.std.proofs.lemmas.List.{drop-take, map-append, nil_from_length}
 use Rattle.std.proofs.lemmas.List.Concat.{flat_map-append}
 use Rattle.std.proofs.lemmas.List.Folds.{list_all-append}
-use Rattle.nv_arrivals.specs.declared.arrival.ArrivalCause.{ArrivalCause}
-use Rattle.nv_arrivals.specs.Arrivals.{Arrival, Input, InputEnd, is_arrival}
-use Rattle.nv_arrivals.specs.Order.{Came, most_clients, nothing_came, onward, after, are_orderly, are_arrivals}
-use Rattle.nv_arrivals.specs.Pieces.{cut_after, pieces, input_of}
-use Rattle.nv_arrivals.proofs.Orderly.{after-append}
-use Rattle.nv_arrivals.proofs.Plain.{plain_limits, plain_order}
+use Rattle.nv_script.specs.declared.arrival.ArrivalCause.{ArrivalCause}
+use Rattle.nv_script.specs.Arrivals.{Arrival, Input, InputEnd, is_arrival}
+use Rattle.nv_script.specs.Order.{Came, most_clients, nothing_came, onward, after, are_orderly, are_arrivals}
+use Rattle.nv_script.specs.Pieces.{cut_after, pieces, input_of}
+use Rattle.nv_script.proofs.Orderly.{after-append}
+use Rattle.nv_script.proofs.Plain.{plain_limits, plain_order}
 use Rattle.nv_outside.specs.Counts.{raised}
 use Rattle.nv_live.specs.declared.source.Read.{Read}
 use Rattle.nv_live.specs.declared.source.Read.TheVariants.{Count, Failed}

@@ -1,7 +1,7 @@
 -- The outside of a live run of many clients: what was taken, what was said, and the transcript.
 use Rattle.std.specs.Prelude.{◌≡◌, ℕ, true, List, [], ◌++◌, length, Option, None}
 use Rattle.std.specs.List.{flat_map}
-use Rattle.nv_arrivals.specs.Doings.{Doing, Said, takings, sayings, handings}
+use Rattle.nv_script.specs.Doings.{Doing, Said, takings, sayings, handings}
 use Rattle.nv_live.specs.declared.incoming.Stopped.{Stopped}
 use Rattle.nv_live.specs.declared.transcript.Transcript.{Transcript}
 use Rattle.nv_live.specs.declared.said_lines.SaidLines.{SaidLines}

@@ -1,12 +1,12 @@
 -- What comes as lines.
 use Rattle.std.specs.Prelude.{◌≡◌, ◌≤◌, ◌<◌, ◌+◌, ◌==◌, ◌||◌, ◌⊎◌, not, nat_le, bytes_eq, ℕ, Bool, true, false, List, [], ◌∷◌, ◌++◌, Option, Some, None, Result, Ok, Err, length, map, filter, codes, count_by, if◌then◌else◌}
 use Rattle.std.specs.List.{concat, flat_map, list_all, list_any}
-use Rattle.nv_text.specs.Lines.{line_number}
-use Rattle.nv_arrivals.specs.Arrivals.{Arrival, is_arrival}
-use Rattle.nv_arrivals.specs.declared.arrival.ArrivalCause.{ArrivalCause}
-use Rattle.nv_arrivals.specs.declared.arrival.ArrivalCause.TheVariants.{Long}
-use Rattle.nv_arrivals.specs.Order.{Came, most_clients, nothing_came, admitted, after}
-use Rattle.nv_arrivals.specs.Reading.{arrival_of}
+use Rattle.nv_bytes.specs.Lines.{line_number}
+use Rattle.nv_script.specs.Arrivals.{Arrival, is_arrival}
+use Rattle.nv_script.specs.declared.arrival.ArrivalCause.{ArrivalCause}
+use Rattle.nv_script.specs.declared.arrival.ArrivalCause.TheVariants.{Long}
+use Rattle.nv_script.specs.Order.{Came, most_clients, nothing_came, admitted, after}
+use Rattle.nv_script.specs.Reading.{arrival_of}
 use Rattle.nv_live.specs.declared.source.Read.{Read}
 use Rattle.nv_live.specs.declared.source.Read.TheVariants.{Count, Failed}
 use Rattle.nv_live.specs.declared.incoming.Stopped.{Stopped}

@@ -1,7 +1,7 @@
 -- Lines of a head and of bytes in hexadecimal digits.
 use Rattle.std.specs.Prelude.{ℕ, List, [], ◌∷◌, ◌++◌, ◌-◌, if◌then◌else◌, nat_le, codes}
 use Rattle.std.specs.List.{onto_first, flat_map}
-use Rattle.nv_text.specs.Numbers.{hex_of}
+use Rattle.nv_bytes.specs.Numbers.{hex_of}
 
 -- bytes by so many at once; n more fit into the first
 unfoldable pub parts_after : ℕ → ℕ → List ℕ → List (List ℕ)

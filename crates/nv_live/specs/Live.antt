@@ -2,9 +2,9 @@
 use Rattle.std.specs.Prelude.{◌≡◌, ℕ, List, [], ◌∷◌, ◌++◌, Option, None, Some, Result, Ok, Err}
 use Rattle.std.specs.List.{flat_map}
 use Rattle.std.specs.declared.alloc.AllocError.{AllocError}
-use Rattle.nv_arrivals.specs.declared.arrival.Arrival as code
-use Rattle.nv_arrivals.specs.Doings.{Doing, Takes, Said, Accepted, Sent, Closed, Printed, takings, sayings, handings}
-use Rattle.nv_arrivals.specs.Views.{view}
+use Rattle.nv_script.specs.declared.arrival.Arrival as code
+use Rattle.nv_script.specs.Doings.{Doing, Takes, Said, Accepted, Sent, Closed, Printed, takings, sayings, handings}
+use Rattle.nv_script.specs.ArrivalViews.{view}
 use Rattle.nv_outside.specs.Sink.{Put}
 use Rattle.nv_live.specs.declared.incoming.Incoming.{Incoming}
 use Rattle.nv_live.specs.declared.incoming.Stopped.{Stopped}

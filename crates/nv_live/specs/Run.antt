@@ -1,8 +1,8 @@
 -- The outside of a live run, of either way, and what its streams show of what was done.
 use Rattle.std.specs.Prelude.{◌≡◌, ℕ, Bool, true, false, List, [], length, Option, None, is_some, IsOk}
-use Rattle.nv_arrivals.specs.Arrivals.{Arrival}
-use Rattle.nv_arrivals.specs.Doings.{Doing, Said}
-use Rattle.nv_arrivals.specs.Order.{Came, most_clients, nothing_came}
+use Rattle.nv_script.specs.Arrivals.{Arrival}
+use Rattle.nv_script.specs.Doings.{Doing, Said}
+use Rattle.nv_script.specs.Order.{Came, most_clients, nothing_came}
 use Rattle.nv_outside.specs.Sink.{Puts}
 use Rattle.nv_live.specs.declared.incoming.Stopped.{Stopped}
 use Rattle.nv_live.specs.declared.run.LiveRun.{LiveRun}

@@ -1,7 +1,7 @@
 -- What is said where there are clients: lines for who has their streams.
 use Rattle.std.specs.Prelude.{ℕ, List, [], ◌++◌, codes}
-use Rattle.nv_text.specs.Numbers.{decimal_of}
-use Rattle.nv_arrivals.specs.Doings.{Said, Accepted, Sent, Closed, Printed}
+use Rattle.nv_bytes.specs.Numbers.{decimal_of}
+use Rattle.nv_script.specs.Doings.{Said, Accepted, Sent, Closed, Printed}
 use Rattle.nv_live.specs.Lines.{line_with, lines_with}
 use Rattle.nv_live.specs.declared.said_lines.SaidLines.{SaidLines}
 use Rattle.nv_live.specs.declared.writer.Writer.{Writer}

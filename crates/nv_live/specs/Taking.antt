@@ -1,8 +1,8 @@
 -- What was taken of a source, as arrivals.
 use Rattle.std.specs.Prelude.{◌≡◌, ◌==◌, ℕ, Bool, false, List, [], ◌∷◌, ◌++◌, Option, None, Some, IsSome, map, drop, true, if◌then◌else◌}
-use Rattle.nv_arrivals.specs.Arrivals.{Arrival, Input}
-use Rattle.nv_arrivals.specs.Order.{most_clients, are_arrivals}
-use Rattle.nv_arrivals.specs.Pieces.{pieces, input_of}
+use Rattle.nv_script.specs.Arrivals.{Arrival, Input}
+use Rattle.nv_script.specs.Order.{most_clients, are_arrivals}
+use Rattle.nv_script.specs.Pieces.{pieces, input_of}
 use Rattle.nv_outside.specs.Counts.{raised}
 use Rattle.nv_live.specs.declared.source.Read.{Read}
 use Rattle.nv_live.specs.declared.source.Read.TheVariants.{Count, Failed}

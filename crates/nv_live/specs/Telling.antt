@@ -1,7 +1,7 @@
 -- What an outside tells of itself as plain data.
 use Rattle.std.specs.Prelude.{ℕ, Bool, List, Option}
 use Rattle.std.specs.Coded.{Coded, codes}
-use Rattle.nv_arrivals.specs.Order.{Came}
+use Rattle.nv_script.specs.Order.{Came}
 use Rattle.nv_outside.specs.Sink.{Put}
 use Rattle.nv_live.specs.declared.incoming.Stopped.{Stopped}
 use Rattle.nv_live.specs.Source.{Moment}

@@ -1,9 +1,9 @@
 -- The transcript: the lines of what came, and of where the leader gave up the lead at an operator's word.
 use Rattle.std.specs.Prelude.{ℕ, List, [], ◌++◌, codes}
 use Rattle.std.specs.List.{flat_map}
-use Rattle.nv_arrivals.specs.Arrivals.{Arrival}
-use Rattle.nv_arrivals.specs.Doings.{Doing, Takes, Says, Hands, takings, handings}
-use Rattle.nv_arrivals.specs.Writing.{line_text}
+use Rattle.nv_script.specs.Arrivals.{Arrival}
+use Rattle.nv_script.specs.Doings.{Doing, Takes, Says, Hands, takings, handings}
+use Rattle.nv_script.specs.Writing.{line_text}
 use Rattle.nv_live.specs.declared.transcript.Transcript.{Transcript}
 use Rattle.nv_live.specs.declared.writer.Writer.{Writer}
 use Rattle.nv_script.specs.HandLines.{hand_line}

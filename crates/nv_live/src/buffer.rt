@@ -1,11 +1,11 @@
 // What was read and not yet taken.
 ghost use Rattle.std.specs.Prelude.{◌≡◌, ◌≤◌, ◌<◌, ◌∷◌, [], IfOk, length, take, drop, true, false, vec_len};
-ghost use Rattle.nv_arrivals.specs.Pieces.{pieces};
+ghost use Rattle.nv_script.specs.Pieces.{pieces};
 ghost use Rattle.nv_live.specs.Source.{count_of};
 
 use crate::{Read, ReadBeside};
-use nv_arrivals::piece;
 use nv_outside::Sink;
+use nv_script::piece;
 use std::alloc::{AllocError, Global};
 
 // How many bytes one read may give.

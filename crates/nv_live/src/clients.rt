@@ -1,9 +1,9 @@
 // The outside of a live run of many clients.
 ghost use Rattle.std.specs.Prelude.{◌≡◌, ◌-◌, ◌<◌, ◌^◌, ◌&&◌, [], Ok, None, IfOk, IsOk, IsTrue, false, true, is_some};
-ghost use Rattle.nv_arrivals.specs.Arrivals.{is_arrival};
-ghost use Rattle.nv_arrivals.specs.Reading.{arrival_of};
-ghost use Rattle.nv_arrivals.specs.Doings.{handing};
-ghost use Rattle.nv_arrivals.specs.Views.{view, taking};
+ghost use Rattle.nv_script.specs.Arrivals.{is_arrival};
+ghost use Rattle.nv_script.specs.Reading.{arrival_of};
+ghost use Rattle.nv_script.specs.Doings.{handing};
+ghost use Rattle.nv_script.specs.ArrivalViews.{view, taking};
 ghost use Rattle.nv_live.specs.Buffer.{held_in};
 ghost use Rattle.nv_live.specs.Clients.{coming_of, lines_out_of, transcript_from, hand_overs_of, stop_among, DidLinesInTurn, DoesLines, DoesLinesInTurn};
 ghost use Rattle.nv_live.specs.ComingLines.{source_from, held_from, line_from, order_from, taken_from, asked_from, stop_from, is_passed, IsWhole};
@@ -12,7 +12,7 @@ ghost use Rattle.nv_live.specs.Lines.{held_text};
 ghost use Rattle.nv_live.specs.SaidLines.{writer_of};
 ghost use Rattle.nv_live.specs.Transcript.{writer_in};
 ghost use Rattle.nv_outside.specs.Sink.{Puts};
-ghost use Rattle.nv_arrivals.specs.Order.{most_clients, nothing_came};
+ghost use Rattle.nv_script.specs.Order.{most_clients, nothing_came};
 ghost use Rattle.nv_live.specs.Writer.{sink_in, put_of, WritesOn};
 ghost use Rattle.nv_script.specs.HandLines.{can_plan};
 ghost use Rattle.nv_script.specs.Scripts.{are_hands};
@@ -23,8 +23,8 @@ use crate::hand_overs::HandOvers;
 use crate::said_lines::SaidLines;
 use crate::transcript::Transcript;
 use crate::{ReadBeside, Stopped};
-use nv_arrivals::{Arrival, Outside, Said};
 use nv_outside::{Put, Sink, WriteFailed};
+use nv_script::{Arrival, Outside, Said};
 use std::alloc::{AllocError, Global};
 
 /// Many clients by lines over one pipe each way: what comes, the transcript of what came, and what is said.

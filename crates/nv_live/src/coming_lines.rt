@@ -1,20 +1,20 @@
 // What comes as lines, read from a source.
 ghost use Rattle.std.specs.Prelude.{◌≡◌, ◌+◌, ◌-◌, ◌<◌, ◌≤◌, ◌++◌, ◌∷◌, ◌^◌, [], None, Some, Ok, IfOk, OnOk, OnErr, length, drop, true, false, is_some};
 ghost use Rattle.std.specs.List.{prefix_len};
-ghost use Rattle.nv_text.specs.Lines.{line_number};
-ghost use Rattle.nv_arrivals.specs.Arrivals.{is_arrival};
-ghost use Rattle.nv_arrivals.specs.Order.{most_clients, nothing_came};
-ghost use Rattle.nv_arrivals.specs.Reading.{arrival_of};
-ghost use Rattle.nv_arrivals.specs.Views.{view, result_view};
+ghost use Rattle.nv_bytes.specs.Lines.{line_number};
+ghost use Rattle.nv_script.specs.Arrivals.{is_arrival};
+ghost use Rattle.nv_script.specs.Order.{most_clients, nothing_came};
+ghost use Rattle.nv_script.specs.Reading.{arrival_of};
+ghost use Rattle.nv_script.specs.ArrivalViews.{view, result_view};
 ghost use Rattle.nv_live.specs.Buffer.{held_in};
 ghost use Rattle.nv_live.specs.ComingLines.{source_from, held_from, line_from, order_from, taken_from, asked_from, stop_from, is_plain, is_comment, is_hand, is_passed, stop_by_end, IsRefused, ComesOn, HandsOn, HasCome, AskedOnce, AskedOn, IsWhole};
 ghost use Rattle.nv_live.specs.Source.{moment_of};
 
 use crate::buffer::Buffer;
 use crate::{Read, ReadBeside, Source, Stopped};
-use nv_arrivals::{Arrival, ArrivalCause, Order, read};
+use nv_bytes::{is, line_number};
 use nv_outside::Sink;
-use nv_text::{is, line_number};
+use nv_script::{Arrival, ArrivalCause, Order, read_arrival};
 use std::alloc::{AllocError, Global};
 
 // The most bytes of a line, with its newline.
@@ -291,7 +291,7 @@ impl<I: Source> ComingLines<I> {
         ensures arrival { IfOk result (λ read. result_view read ≡ arrival_of (line_from self.now)) }
         ensures sound { IfOk result (λ read. IfOk read (λ arrival. is_arrival (view arrival) ≡ true)) }
     {
-        read(alloc, &self.line)
+        read_arrival(alloc, &self.line)
     }
 
     /// Takes the line, whose arrival comes next, or refuses it.

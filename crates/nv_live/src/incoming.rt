@@ -1,6 +1,6 @@
 // What comes, read from a source.
 ghost use Rattle.std.specs.Prelude.{◌≡◌, ◌<◌, ◌++◌, ◌∷◌, [], ℕ, List, Some, None, IfOk, length, drop, true, false, is_some};
-ghost use Rattle.nv_arrivals.specs.Arrivals.{Input};
+ghost use Rattle.nv_script.specs.Arrivals.{Input};
 ghost use Rattle.nv_live.specs.Buffer.{held_in};
 ghost use Rattle.nv_live.specs.Incoming.{source_in, held_of, stop_of, TakesOn, ReadOnce};
 ghost use Rattle.nv_live.specs.Source.{moment_of};
@@ -8,8 +8,8 @@ ghost use Rattle.nv_live.specs.Taking.{Took, stop_by, IsFirst};
 
 use crate::buffer::Buffer;
 use crate::{Read, ReadBeside, Source};
-use nv_arrivals::ArrivalCause;
 use nv_outside::Sink;
+use nv_script::ArrivalCause;
 use std::alloc::{AllocError, Global};
 
 /// Why nothing more comes.

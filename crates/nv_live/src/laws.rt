@@ -1,9 +1,9 @@
 // A law that a transcript obeys.
 ghost use Rattle.std.specs.Prelude.{◌≡◌, ℕ, true, List, ◌++◌};
 ghost use Rattle.std.specs.List.{All, list_all};
-ghost use Rattle.nv_arrivals.specs.Arrivals.{is_arrival, BringsBytes};
-ghost use Rattle.nv_arrivals.specs.Doings.{Doing, takings, handings};
-ghost use Rattle.nv_arrivals.specs.Order.{most_clients, are_orderly};
+ghost use Rattle.nv_script.specs.Arrivals.{is_arrival, BringsBytes};
+ghost use Rattle.nv_script.specs.Doings.{Doing, takings, handings};
+ghost use Rattle.nv_script.specs.Order.{most_clients, are_orderly};
 ghost use Rattle.nv_live.specs.Transcript.{notes_on, continued_with};
 ghost use Rattle.nv_script.specs.Scripts.{Setup, are_hands};
 ghost use Rattle.nv_script.specs.Transcripts.{IsTranscript};

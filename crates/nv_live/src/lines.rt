@@ -1,14 +1,14 @@
 // Lines of a head and of bytes in hexadecimal digits.
 ghost use Rattle.std.specs.Prelude.{◌≡◌, ◌++◌, ◌+◌, ◌*◌, ◌≤◌, IsErr, length};
-ghost use Rattle.nv_text.specs.Numbers.{hex_of};
+ghost use Rattle.nv_bytes.specs.Numbers.{hex_of};
 ghost use Rattle.nv_live.specs.Lines.{line_with, lines_with};
 ghost use Rattle.nv_live.specs.Writer.{put_of, WritesOn};
 
 use crate::writer::Writer;
 use arrayvec::ArrayVec;
-use nv_arrivals::MOST_ARRIVAL;
+use nv_bytes::hex_pair;
 use nv_outside::Sink;
-use nv_text::hex_pair;
+use nv_script::MOST_ARRIVAL;
 
 // The most bytes of a line: a pipe takes so many whole.
 const MOST_LINE: usize = 4096;
@@ -28,7 +28,7 @@ pub(crate) fn put(line: &mut Line, bytes: &[u8])
 }
 
 // Adds bytes in hexadecimal digits.
-#[tactic(auto, using(nv_arrivals::proofs::Hex::hex_more))]
+#[tactic(auto, using(nv_script::proofs::Hex::hex_more))]
 fn put_hex(line: &mut Line, bytes: &[u8])
     requires { length line.old.items + 2 * length bytes.now ≤ 4096 }
     ensures text { line.new.items ≡ line.old.items ++ hex_of bytes.now }

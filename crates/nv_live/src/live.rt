@@ -1,7 +1,7 @@
 // The outside of a live run.
 ghost use Rattle.std.specs.Prelude.{◌≡◌, ◌<◌, ◌∷◌, [], Ok, None, IfOk, IsOk, length, true, is_some};
-ghost use Rattle.nv_arrivals.specs.Doings.{Says};
-ghost use Rattle.nv_arrivals.specs.Views.{said_view, taking};
+ghost use Rattle.nv_script.specs.Doings.{Says};
+ghost use Rattle.nv_script.specs.ArrivalViews.{said_view, taking};
 ghost use Rattle.nv_live.specs.Buffer.{held_in};
 ghost use Rattle.nv_live.specs.Incoming.{source_in, held_of, stop_of};
 ghost use Rattle.nv_live.specs.Lines.{held_text};
@@ -15,8 +15,8 @@ use crate::buffer::Buffer;
 use crate::incoming::{Incoming, Stopped};
 use crate::transcript::Transcript;
 use crate::writer::Writer;
-use nv_arrivals::{Arrival, Outside, Said};
 use nv_outside::{Put, Sink, WriteFailed};
+use nv_script::{Arrival, Outside, Said};
 use std::alloc::{AllocError, Global};
 
 /// What comes, the transcript of what came, and what is said: of that the bytes for the console alone, since a plain run has no clients.

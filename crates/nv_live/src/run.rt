@@ -13,8 +13,8 @@ use crate::incoming::Stopped;
 use crate::live::Live;
 use crate::streams::Streams;
 use crate::{ReadBeside, Telling};
-use nv_arrivals::{Arrival, Outside, Said};
 use nv_outside::{Put, Sink};
+use nv_script::{Arrival, Outside, Said};
 use std::alloc::{AllocError, Global};
 
 /// The outside of a live run: plain input and output, or many clients by lines both ways.

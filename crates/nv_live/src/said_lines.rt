@@ -1,15 +1,15 @@
 // What is said, as lines.
 ghost use Rattle.std.specs.Prelude.{◌≡◌, ◌++◌, ◌+◌, ◌≤◌, [], IsOk, IsErr, length};
-ghost use Rattle.nv_text.specs.Numbers.{decimal_of};
-ghost use Rattle.nv_arrivals.specs.Views.{said_view};
+ghost use Rattle.nv_bytes.specs.Numbers.{decimal_of};
+ghost use Rattle.nv_script.specs.ArrivalViews.{said_view};
 ghost use Rattle.nv_live.specs.SaidLines.{writer_of, head_of, said_lines};
 ghost use Rattle.nv_live.specs.Writer.{sink_in, put_of, WritesOn};
 
 use crate::lines::{Line, put, write_line, write_lines};
 use crate::writer::Writer;
-use nv_arrivals::Said;
+use nv_bytes::decimal;
 use nv_outside::{Put, Sink};
-use nv_text::decimal;
+use nv_script::Said;
 
 /// What is said, written as lines into a sink, each by one text.
 #[derive(Drop)]

@@ -1,6 +1,6 @@
 // The transcript of what came.
 ghost use Rattle.std.specs.Prelude.{◌≡◌, OnOk, OnErr, ◌∷◌, []};
-ghost use Rattle.nv_arrivals.specs.Views.{view};
+ghost use Rattle.nv_script.specs.ArrivalViews.{view};
 ghost use Rattle.nv_outside.specs.Sink.{Puts};
 ghost use Rattle.nv_live.specs.Lines.{held_text};
 ghost use Rattle.nv_live.specs.Transcript.{lines_of, hand_text, writer_in, text_in};
@@ -9,8 +9,8 @@ ghost use Rattle.nv_live.specs.Writer.{sink_in, put_of, WritesOn};
 use crate::lines::{Line, write_line, write_lines};
 use crate::said_lines::put_numbered;
 use crate::writer::Writer;
-use nv_arrivals::{Arrival, put_line};
 use nv_outside::{Put, Sink};
+use nv_script::{Arrival, put_line};
 use std::alloc::{AllocError, Global};
 
 // What a comment of bytes that no call took begins with.

@@ -6,8 +6,8 @@ ghost use Rattle.nv_room.specs.Owner.{is_free, is_closed, owner_at};
 ghost use Rattle.nv_room.specs.Steps.{as_leaving, as_gone};
 ghost use Rattle.nv_room.specs.Seats.{IsOfRoom, IsLeadOf, IsLeftOf, view, lead_view, left_view, station_of_reader, version_of_reader, station_of_lead, version_of_lead, station_of_left, version_of_left, kernel_of, due_of};
 
+use nv_calls::SyscallKernel;
 use nv_room::{Lead, Left, Reader, Room};
-use nv_served::SyscallKernel;
 
 /// The kernel goes home, the room is free at head for another station to lead, and the station leaves.
 pub fn retire<K: SyscallKernel>(lead: Lead<K>, room: &Room<K>) -> Left<K>

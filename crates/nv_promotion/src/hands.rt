@@ -7,8 +7,8 @@ ghost use Rattle.nv_room.specs.Owner.{is_free, owner_at};
 ghost use Rattle.nv_room.specs.Kinds.{Stepped};
 ghost use Rattle.nv_room.specs.Seats.{IsOfRoom, IsLeadOf, stations_of, view, lead_view, station_of_reader, version_of_reader, version_of_lead, opened_of, due_of, hands_of};
 
+use nv_calls::SyscallKernel;
 use nv_room::{Lead, Reader, Room};
-use nv_served::SyscallKernel;
 
 /// The log has just reached a planned length, or a station is left beside those kept for the planned lengths above it; and the lead
 /// has led an event. The kernel goes home, the room is free at head for another station to lead, and the seat reads on at a new

@@ -6,8 +6,8 @@ ghost use Rattle.nv_room.specs.Kinds.{Stepped};
 ghost use Rattle.nv_room.specs.Seats.{IsOfRoom, IsLeadOf, SameReader, stations_of, view, lead_view, station_of_reader, version_of_reader, station_of_lead, version_of_lead, kernel_of, due_of, origin};
 ghost use Rattle.nv_promotion.specs.Lowers.{KeepsMarks, IsLower};
 
+use nv_calls::SyscallKernel;
 use nv_room::{Cursor, Lead, Reader, Room};
-use nv_served::SyscallKernel;
 
 /// Whether all stations below a reader's have left.
 #[derive(Clone, Copy, Debug, PartialEq, Eq, Drop)]

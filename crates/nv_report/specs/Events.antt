@@ -3,7 +3,7 @@ use Rattle.std.specs.Prelude.{ℕ, ℤ, List, [], ◌∷◌, ◌++◌, if◌then
 use Rattle.std.specs.Fmt.{signed_decimal}
 use Rattle.std.specs.List.{flat_map, concat}
 use Rattle.nv_calls.specs.Calls.{Entry}
-use Rattle.nv_text.specs.Numbers.{hex_of}
+use Rattle.nv_bytes.specs.Numbers.{hex_of}
 use Rattle.nv_report.specs.Numbers.{number_text}
 
 -- the bytes of a call and of its reply, after a space where there are any

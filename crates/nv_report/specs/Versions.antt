@@ -8,7 +8,7 @@ use Rattle.nv_machine.specs.declared.outcome.FaultKind.TheVariants.{Illegal, Mis
 use Rattle.nv_replay.specs.declared.fate.Fate.{Fate}
 use Rattle.nv_replay.specs.declared.fate.Fate.TheVariants.{Exited, Fault, Refused, Memory, LetGo}
 use Rattle.nv_replay.specs.declared.standing.Standing.{Standing}
-use Rattle.nv_text.specs.Numbers.{hex_of}
+use Rattle.nv_bytes.specs.Numbers.{hex_of}
 
 abbrev pub kind_text : FaultKind → List ℕ
 kind_text Illegal = codes "illegal"

@@ -3,7 +3,7 @@ ghost use Rattle.std.specs.Prelude.{◌≡◌, ◌++◌, codes};
 ghost use Rattle.std.specs.List.{flat_map};
 ghost use Rattle.nv_outside.specs.Sink.{Puts};
 ghost use Rattle.nv_calls.specs.Calls.{entry};
-ghost use Rattle.nv_text.specs.Numbers.{hex_of};
+ghost use Rattle.nv_bytes.specs.Numbers.{hex_of};
 ghost use Rattle.nv_report.specs.Events.{call_text, result_text, payload_text, event_text};
 
 use crate::numbers::{put_hex, put_numbers};

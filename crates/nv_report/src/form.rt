@@ -7,8 +7,8 @@ ghost use Rattle.nv_report.specs.Json.{report_object, report_value, json_text};
 
 use crate::items::{events, versions};
 use crate::values::hex_value;
+use nv_calls::{Recorded, SyscallKernel};
 use nv_replay::Account;
-use nv_served::{Recorded, SyscallKernel};
 use serde_json::{Value, json};
 use std::alloc::{AllocError, Global};
 

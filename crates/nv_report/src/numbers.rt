@@ -1,12 +1,12 @@
 // Numbers, in decimal and as hexadecimal digits.
 ghost use Rattle.std.specs.List.{flat_map};
 ghost use Rattle.nv_outside.specs.Sink.{Puts};
-ghost use Rattle.nv_text.specs.Numbers.{hex_of};
+ghost use Rattle.nv_bytes.specs.Numbers.{hex_of};
 ghost use Rattle.nv_report.specs.Numbers.{number_text};
 
 use itoa::Buffer;
+use nv_bytes::hex_pair;
 use nv_outside::{Put, Sink, put_all, put_pieces};
-use nv_text::hex_pair;
 
 // Each number with a space after it.
 pub fn put_numbers<S: Sink>(sink: &mut S, numbers: &[u32]) -> Put

@@ -9,9 +9,9 @@ ghost use Rattle.nv_report.specs.Report.{head_text, count_text, fates_text, repo
 use crate::events::put_events;
 use crate::versions::put_lines;
 use itoa::Buffer;
+use nv_calls::{Recorded, SyscallKernel};
 use nv_outside::{Put, Sink, put_pieces};
 use nv_replay::{Account, Version};
-use nv_served::{Recorded, SyscallKernel};
 
 /// Writes the report of a run. It takes no memory.
 pub fn write<S: Sink, K: SyscallKernel + Recorded>(sink: &mut S, account: &Account<K>) -> Put

@@ -2,10 +2,10 @@
 use Rattle.std.proofs.Common.{◌≡◌, ◌≢◌, ℕ, ◌+◌, ◌<◌, ◌≤◌, inr, min, List, length, get_or, set, subst, sym, ap, ◌∙◌, arith, get_or-set_other, get_or-set_same}
 use mathlib.Core.Logic.{dite}
 use native.Mathlib.Decide.{ℕ_discrete, dec_le}
-use Rattle.nv_places.proofs.PlacementLaws.{before_and_from, fits_later}
-use Rattle.nv_places.proofs.PoolOfLog.{fits_by_pool}
+use Rattle.nv_room.proofs.PlacementLaws.{before_and_from, fits_later}
+use Rattle.nv_room.proofs.PoolOfLog.{fits_by_pool}
 use Rattle.nv_room.specs.Placement.{Log, pool_chunks, chunks_from, Fits}
-use Rattle.nv_served.specs.declared.kernel.SyscallKernel.{Ghosts}
+use Rattle.nv_calls.specs.declared.kernel.SyscallKernel.{Ghosts}
 use Rattle.nv_room.specs.declared.room.Room.{Room}
 use Rattle.nv_room.specs.declared.room.Lead.{Lead}
 use Rattle.nv_room.specs.Seats.{lead_view, station_of_lead, opened_of, NextFits}

@@ -19,8 +19,8 @@ use Rattle.nv_room.specs.declared.view.Past.{Past}
 use Rattle.nv_room.specs.declared.view.Span.{Span}
 use Rattle.nv_room.specs.declared.view.Role.{Role}
 use Rattle.nv_room.specs.declared.view.Role.TheVariants.{Reader, Gone, Spent}
-use Rattle.nv_places.specs.Header.{head_index, cursor_index}
-use Rattle.nv_places.proofs.StampLaws.{stamps_first}
+use Rattle.nv_room.specs.Header.{head_index, cursor_index}
+use Rattle.nv_room.proofs.StampLaws.{stamps_first}
 use Rattle.nv_room.specs.Placement.{table_words, slot}
 use Rattle.std.proofs.lemmas.List.{length-replicate}
 use Rattle.nv_room.specs.Owner.{free}

@@ -23,7 +23,7 @@ use Rattle.nv_room.specs.Room.{cursor, Moment, as_of, Places, Doors, Led, Common
 use Rattle.nv_room.specs.Steps.{one_on, goes_ahead, as_gone, left}
 use Rattle.nv_room.proofs.Lists.{at_below, there}
 use Rattle.nv_room.proofs.Placement.{place_after, header_inside}
-use Rattle.nv_places.specs.Header.{head_index, cursor_index}
+use Rattle.nv_room.specs.Header.{head_index, cursor_index}
 use Rattle.nv_room.proofs.Merges.{merge_turned, second_kept, notes_none}
 use Rattle.nv_room.proofs.Stays.{Onward, Own, last_near, planned, lead_stays, same_tags, past_on, now, moved}
 use Rattle.nv_room.proofs.Seats.{prefix_more, not_held, none_above, unmade_apart, apart_role, former_apart, apart_from, apart_unmade, in_role, seated, open_near, seat_near, role_near, told}

@@ -5,12 +5,12 @@ use Rattle.std.proofs.lemmas.Option.{same_Some}
 use Rattle.nv_words.specs.Spelling.{low}
 use Rattle.nv_words.specs.Read.{event_of}
 use Rattle.nv_words.specs.Begins.{Prefix}
-use Rattle.nv_lanes.specs.Lanes.{lane_in}
-use Rattle.nv_places.specs.Logs.{lanes_after, lane, earlier}
+use Rattle.nv_room.specs.Lanes.{lane_in}
+use Rattle.nv_room.specs.Logs.{lanes_after, lane, earlier}
 use Rattle.atomic_table.proofs.Lists.{at_longer}
-use Rattle.nv_places.specs.declared.spot.Spot.{Spot}
-use Rattle.nv_places.proofs.LogLaws.{lane_is_taken, earlier_was_count}
-use Rattle.nv_places.proofs.PoolOfLog.{before_prefix}
+use Rattle.nv_room.specs.declared.spot.Spot.{Spot}
+use Rattle.nv_room.proofs.LogLaws.{lane_is_taken, earlier_was_count}
+use Rattle.nv_room.proofs.PoolOfLog.{before_prefix}
 use Rattle.nv_room.specs.declared.view.View.{View}
 use Rattle.nv_room.specs.Placement.{Log, pool_chunks, chunks_before, slot, spot, word_place, next_slot}
 use Rattle.nv_room.specs.Steps.{probed_at, with_note, with_miss}

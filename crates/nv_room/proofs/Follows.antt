@@ -8,13 +8,13 @@ use Rattle.std.proofs.lemmas.Bool.{eq-eqb, ne_eqb}
 use Rattle.std.proofs.lemmas.List.{get_or_push, get_or_append_left, map-append, length-map}
 use Rattle.nv_words.specs.Spelling.{low, high}
 use Rattle.nv_words.specs.Read.{event_of}
-use Rattle.nv_lanes.specs.Lanes.{Taken, noted_by, noted, taken_after}
-use Rattle.nv_lanes.proofs.LaneLaws.{taken_push, noted_all}
+use Rattle.nv_room.specs.Lanes.{Taken, noted_by, noted, taken_after}
+use Rattle.nv_room.proofs.LaneLaws.{taken_push, noted_all}
 use Rattle.nv_pool.specs.declared.pool.Pool.{Pool}
 use Rattle.nv_pool.specs.Pool.{Holds, count_of}
-use Rattle.nv_places.specs.Logs.{Log, entries, lanes_after}
-use Rattle.nv_places.specs.Placement.{payload_size, sizes}
-use Rattle.nv_places.proofs.LogLaws.{entries_push, entries_length}
+use Rattle.nv_room.specs.Logs.{Log, entries, lanes_after}
+use Rattle.nv_room.specs.Placement.{payload_size, sizes}
+use Rattle.nv_room.proofs.LogLaws.{entries_push, entries_length}
 
 -- the word at a place, kept when it comes
 pub kept_at : (old wanted i word : ℕ) (words : List ℕ) → i ≡ length words → (wanted < length words → old ≡ get_or words wanted 0) → wanted < length (words ++ word ∷ []) → cond (i == wanted) word old ≡ get_or (words ++ word ∷ []) wanted 0

@@ -17,7 +17,7 @@ use Rattle.nv_room.specs.declared.view.View.{View}
 use Rattle.nv_room.specs.declared.view.Layout.{Layout}
 use Rattle.nv_room.specs.declared.view.Span.{Span}
 use Rattle.nv_room.specs.declared.view.Role.TheVariants.{Reader, Lead, Opening, Moving}
-use Rattle.nv_places.specs.Header.{cursor_index}
+use Rattle.nv_room.specs.Header.{cursor_index}
 use Rattle.nv_room.specs.Owner.{GONE, Phase, held, free, owner_word, owner_at}
 use Rattle.nv_room.specs.Spans.{Tiles, Rising, of_station, of_version, handed_on, LastHasEvent, IsLastStation, Opened}
 use Rattle.nv_room.specs.Planned.{below}

@@ -30,7 +30,7 @@ use Rattle.nv_room.specs.Steps.{as_leaving, gave_up, span_begun, as_lead, took}
 use Rattle.nv_room.proofs.Lists.{at_below, at_end}
 use Rattle.nv_room.proofs.Placement.{place_after, header_inside}
 use Rattle.nv_room.proofs.Tiling.{tiles_more, rising_more, opened_more, last_apart, of_more_other, version_more_other, version_more_own}
-use Rattle.nv_places.specs.Header.{head_index, cursor_index}
+use Rattle.nv_room.specs.Header.{head_index, cursor_index}
 use Rattle.nv_room.proofs.Merges.{merge_turned, merge_phase, merged_quiet, second_kept}
 use Rattle.nv_room.proofs.Stays.{Onward, Own, last_near, planned, past_on, now, moved}
 use Rattle.nv_room.proofs.Seats.{holder_led, none_above, beside_lead, one_last, apart_role, apart_version, apart_from, former_apart, in_role, seated, open_near, none_ready}

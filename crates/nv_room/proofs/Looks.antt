@@ -16,8 +16,8 @@ use Rattle.nv_words.proofs.SpellLaws.{prefix_length, prefix_same, whole_same, sh
 use Rattle.nv_room.specs.declared.view.View.{View}
 use Rattle.nv_room.specs.declared.view.Layout.{Layout}
 use Rattle.nv_room.specs.declared.view.Role.TheVariants.{Reader, Lead}
-use Rattle.nv_places.specs.Header.{head_index, cursor_index}
-use Rattle.nv_places.specs.Logs.{lane}
+use Rattle.nv_room.specs.Header.{head_index, cursor_index}
+use Rattle.nv_room.specs.Logs.{lane}
 use Rattle.nv_room.specs.Placement.{Log, word_place}
 use Rattle.nv_room.specs.Owner.{GONE, Phase, held, free, closed, is_held, is_free, is_closed, owner_at, opened_at, lower_marked, is_noted, note_of}
 use Rattle.nv_room.proofs.OwnerLaws.{and_both, marked}

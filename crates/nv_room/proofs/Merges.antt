@@ -7,10 +7,10 @@ use lib.ListN.{get_elem?}
 use Rattle.std.specs.Prelude.{Option, None}
 use Rattle.atomic_table.proofs.Lists.{at_set}
 use Rattle.nv_words.specs.Spelling.{low}
-use Rattle.nv_places.specs.Logs.{lane, earlier}
-use Rattle.nv_places.proofs.LogLaws.{lane_stays}
-use Rattle.nv_places.specs.Stamps.{Stamp, Stamps}
-use Rattle.nv_places.proofs.StampLaws.{stamps_more, stamps_second}
+use Rattle.nv_room.specs.Logs.{lane, earlier}
+use Rattle.nv_room.proofs.LogLaws.{lane_stays}
+use Rattle.nv_room.specs.Stamps.{Stamp, Stamps}
+use Rattle.nv_room.proofs.StampLaws.{stamps_more, stamps_second}
 use Rattle.nv_room.specs.declared.view.View.{View}
 use Rattle.nv_room.specs.declared.view.Role.TheVariants.{Reader, Lead}
 use Rattle.nv_room.specs.Placement.{Log, header, slot, word_place}

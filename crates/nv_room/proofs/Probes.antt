@@ -13,11 +13,11 @@ use Rattle.nv_calls.specs.Calls.{Entry}
 use Rattle.nv_calls.specs.Logs.{IsLawful}
 use Rattle.nv_calls.proofs.LogLaws.{lawful_range, slice_some}
 use Rattle.nv_words.specs.Spelling.{low, spell}
-use Rattle.nv_places.specs.Logs.{entries, lanes_after, lane}
-use Rattle.nv_places.proofs.LogLaws.{lane_below_8, entries_spelt}
-use Rattle.nv_places.specs.Stamps.{IsStamped, found_in_lane, Lives}
-use Rattle.nv_places.proofs.StampLaws.{number_word}
-use Rattle.nv_places.proofs.MergeLaws.{probe_hits, probe_misses, next_found, next_lives}
+use Rattle.nv_room.specs.Logs.{entries, lanes_after, lane}
+use Rattle.nv_room.proofs.LogLaws.{lane_below_8, entries_spelt}
+use Rattle.nv_room.specs.Stamps.{IsStamped, found_in_lane, Lives}
+use Rattle.nv_room.proofs.StampLaws.{number_word}
+use Rattle.nv_room.proofs.MergeLaws.{probe_hits, probe_misses, next_found, next_lives}
 use Rattle.nv_room.specs.declared.view.View.{View}
 use Rattle.nv_room.specs.declared.view.Layout.{Layout}
 use Rattle.nv_room.specs.declared.view.Role.TheVariants.{Reader}

@@ -13,7 +13,7 @@ use Rattle.nv_calls.specs.Calls.{Entry}
 use Rattle.nv_calls.specs.Logs.{IsLawful}
 use Rattle.nv_calls.proofs.LogLaws.{lawful_range, lawful_few, slice_some}
 use Rattle.nv_words.specs.Spelling.{spell, IsWhole, low, pair, flag_bit}
-use Rattle.nv_places.proofs.StampLaws.{number_word}
+use Rattle.nv_room.proofs.StampLaws.{number_word}
 use Rattle.nv_words.specs.Begins.{BeginsEvent}
 use Rattle.nv_words.proofs.SpellLaws.{spell_whole, shorter}
 use Rattle.nv_room.specs.Caches.{HasNext, AreOf}

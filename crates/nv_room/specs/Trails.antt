@@ -1,8 +1,8 @@
 -- What a seat keeps of the events that it has seen, and of the one that it reads or writes.
 use Rattle.std.specs.Prelude.{◌≡◌, ℕ, ◌<◌, ◌%◌, ◌++◌, List, [], ◌∷◌, length, slice_index, Some}
 use Rattle.nv_pool.specs.Pool.{chunks_of_pool, places_of, Holds}
-use Rattle.nv_places.specs.Logs.{Log, lanes_after, lane}
-use Rattle.nv_places.specs.declared.spot.Spot.{Spot}
+use Rattle.nv_room.specs.Logs.{Log, lanes_after, lane}
+use Rattle.nv_room.specs.declared.spot.Spot.{Spot}
 use Rattle.nv_room.specs.declared.view.View.{View}
 use Rattle.nv_room.specs.declared.trail.Trail.{Trail}
 use Rattle.nv_room.specs.Placement.{pool_chunks, chunks_before, sizes}

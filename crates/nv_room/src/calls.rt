@@ -2,19 +2,18 @@
 ghost use Rattle.std.specs.Prelude.{◌≡◌, ◌+◌, ◌<◌, ◌≤◌, ◌++◌, [], ◌∷◌, true, false, length, slice_index, OnOk, Contains, IsTrue, ◌↔◌};
 ghost use Rattle.nv_calls.specs.Calls.{request};
 ghost use Rattle.nv_calls.specs.Logs.{served, live_after, IsLawful};
-ghost use Rattle.nv_served.specs.Learning.{GoesOn};
+ghost use Rattle.nv_calls.specs.Learning.{GoesOn};
 ghost use Rattle.nv_calls.specs.Shapes.{IsShaped};
 ghost use Rattle.nv_calls.specs.Limits.{MOST_BYTES, MOST_EVENTS};
 ghost use Rattle.nv_room.specs.Seats.{view, lead_view, station_of_reader, version_of_reader, station_of_lead, version_of_lead, opened_of, stations_of, versions_of, places_of, on_demand_of, kernel_of, due_of, SameLead};
-ghost use Rattle.nv_lanes.specs.Lanes.{lives};
+ghost use Rattle.nv_room.specs.Lanes.{lives};
 ghost use Rattle.nv_pool.specs.Chunks.{chunks_of};
 ghost use Rattle.nv_room.specs.Placement.{pool_chunks, chunks_from};
-ghost use Rattle.nv_places.specs.Logs.{lanes_after};
+ghost use Rattle.nv_room.specs.Logs.{lanes_after};
 
+use crate::lanes::Lanes;
 use crate::room::{Lead, Reader, Room};
-use nv_calls::Call;
-use nv_lanes::Lanes;
-use nv_served::SyscallKernel;
+use nv_calls::{Call, SyscallKernel};
 use std::alloc::AllocError;
 
 impl<K: SyscallKernel> Lead<K> {

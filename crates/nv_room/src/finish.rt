@@ -11,7 +11,7 @@ use crate::room::{Left, Room};
 use crate::rule::RoomRule;
 use crate::view::{Layout, View};
 use atomic_table::{Seat, Table};
-use nv_served::SyscallKernel;
+use nv_calls::SyscallKernel;
 use std::alloc::Global;
 
 type Board<K> = Table<Option<K>, View<K>, Layout<K>, RoomRule<K>, Global>;

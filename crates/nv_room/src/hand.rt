@@ -9,7 +9,7 @@ ghost use Rattle.nv_room.specs.Seats.{IsOfRoom, IsLeadOf, IsLeavingOf, IsLeftOf,
 use crate::plays::{GiveUp, Leave, Take};
 use crate::room::{Lead, Leaving, Left, Reader, Room, STATIONS};
 use crate::steps::{FIRST_CURSOR, GONE, LINE, OWNER};
-use nv_served::SyscallKernel;
+use nv_calls::SyscallKernel;
 
 const HELD: u64 = 1;
 

@@ -10,7 +10,7 @@ ghost use Rattle.nv_room.specs.Seats.{IsOfRoom, IsLeadOf, IsOpeningOf, IsMovingO
 use crate::plays::{Hand, LookSpare, Move, OpenNext};
 use crate::room::{Lead, Moving, Opening, Reader, Room};
 use crate::steps::{FIRST_CURSOR, GONE, HEAD, LINE, OWNER};
-use nv_served::SyscallKernel;
+use nv_calls::SyscallKernel;
 
 impl<K: SyscallKernel> Room<K> {
     /// The first station that isn't open gets head as its cursor. There is one wherever the log has just reached a planned

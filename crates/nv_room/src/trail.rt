@@ -2,9 +2,9 @@
 ghost use Rattle.std.specs.Prelude.{◌≡◌, ℕ, ◌+◌, ◌<◌, ◌≤◌, ◌++◌, List, [], ◌∷◌, length, sum, if◌then◌else◌, ◌==◌};
 ghost use Rattle.std.specs.Int.{w32, cast_signed};
 ghost use Rattle.nv_words.specs.Spelling.{low, high};
-ghost use Rattle.nv_lanes.specs.Lanes.{noted_by};
+ghost use Rattle.nv_room.specs.Lanes.{noted_by};
 
-use nv_lanes::Lanes;
+use crate::lanes::Lanes;
 use nv_pool::Pool;
 
 /// The lanes and the chunks after the events that were seen, and of the next event the first word and the sixth, which tell its thread,

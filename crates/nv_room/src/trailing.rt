@@ -3,13 +3,13 @@ ghost use Rattle.std.specs.Prelude.{◌≡◌, ℕ, ◌+◌, ◌<◌, ◌≤◌,
 ghost use Rattle.std.specs.Int.{w32, cast_signed};
 ghost use Rattle.nv_calls.specs.Limits.{MOST_EVENTS};
 ghost use Rattle.nv_words.specs.Spelling.{low, high};
-ghost use Rattle.nv_lanes.specs.Lanes.{noted_by};
+ghost use Rattle.nv_room.specs.Lanes.{noted_by};
 ghost use Rattle.nv_pool.specs.Pool.{count_of};
 ghost use Rattle.nv_room.specs.Trails.{Trails};
 
+use crate::lanes::Lanes;
+use crate::spot::PLACE_WORDS;
 use crate::trail::Trail;
-use nv_lanes::Lanes;
-use nv_places::PLACE_WORDS;
 use nv_pool::Pool;
 use std::alloc::{AllocError, Global};
 

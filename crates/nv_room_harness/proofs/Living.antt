@@ -2,7 +2,7 @@
 use Rattle.std.proofs.Common.{◌≡◌, ◌∙◌, sym, ap, subst, eq-eqb, ℕ, zero, Bool, true, false, List, [], ◌∷◌, ◌++◌, Option, Some, None, ◌⊎◌, inl, inr, refl, arith, cond}
 use Rattle.std.specs.Prelude.{◌==◌, ◌||◌, not, filter, Contains}
 use Rattle.std.proofs.lemmas.Bool.{eqb-true}
-use Rattle.nv_lanes.specs.Lanes.{is_of}
+use Rattle.nv_room.specs.Lanes.{is_of}
 use Rattle.std.proofs.lemmas.List.Elements.{Contains-append_left, Contains-push}
 use Rattle.std.proofs.lemmas.Option.{same_Some}
 use Rattle.std.proofs.lemmas.Bool.Decides.{nat_tests}

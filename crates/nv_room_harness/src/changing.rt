@@ -10,12 +10,11 @@ ghost use Rattle.nv_room_harness.specs.Backs.{HasReadNothing};
 
 use crate::lives::goes_on;
 use crate::running::publish_one;
-use nv_calls::{Call, EXIT_GROUP, FIRST_THREAD};
+use nv_calls::{Call, EXIT_GROUP, FIRST_THREAD, Recorded, SyscallKernel};
 use nv_lamport::{Polled, poll_merged};
 use nv_promotion::{Lower, close, leave, lower_gone, retire, take};
 use nv_ring::advance;
 use nv_room::{Ended, Lead, Left, Reader, Room};
-use nv_served::{Recorded, SyscallKernel};
 use nv_words::EventBuf;
 use std::alloc::{AllocError, Global};
 

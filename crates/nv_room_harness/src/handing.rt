@@ -9,12 +9,11 @@ ghost use Rattle.nv_room_harness.specs.Backs.{HasReadNothing};
 
 use crate::changing::{end_lead, publish_some, read_some, take_over};
 use crate::lives::goes_on;
-use nv_calls::{Call, EXIT_GROUP, FIRST_THREAD};
+use nv_calls::{Call, EXIT_GROUP, FIRST_THREAD, Recorded, SyscallKernel};
 use nv_lamport::{Polled, poll_merged};
 use nv_promotion::{Lower, hand, leave, lower_gone};
 use nv_ring::{Placed, place, publish};
 use nv_room::{Ended, Lead, Left, Reader, Room};
-use nv_served::{Recorded, SyscallKernel};
 use nv_words::EventBuf;
 use std::alloc::{AllocError, Global};
 

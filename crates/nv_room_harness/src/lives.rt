@@ -3,7 +3,7 @@ ghost use Rattle.std.specs.Prelude.{◌≡◌, map, Contains, IsTrue, ◌||◌};
 ghost use Rattle.std.specs.Bool.{OnTrue};
 ghost use Rattle.nv_calls.specs.Calls.{entry};
 ghost use Rattle.nv_calls.specs.Logs.{live_after, child_of};
-ghost use Rattle.nv_lanes.specs.Lanes.{is_of};
+ghost use Rattle.nv_room.specs.Lanes.{is_of};
 
 use nv_calls::{EXIT, EXIT_GROUP, Event, FIRST_THREAD, made};
 

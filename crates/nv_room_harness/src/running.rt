@@ -10,12 +10,11 @@ ghost use Rattle.nv_room_harness.specs.Scripts.{AreCalls};
 
 use crate::lives::{can_call, goes_on};
 use crate::script::Script;
-use nv_calls::{Call, FIRST_THREAD, MOST_EVENTS};
+use nv_calls::{Call, FIRST_THREAD, MOST_EVENTS, Recorded, SyscallKernel};
 use nv_lamport::{Polled, poll_merged};
 use nv_promotion::{Lower, close, leave, lower_gone, retire, take};
 use nv_ring::{Placed, advance, place, publish};
 use nv_room::{Ended, Lead, Leaving, Left, Moving, Opening, Reader, Room};
-use nv_served::{Recorded, SyscallKernel};
 use nv_words::EventBuf;
 use std::alloc::{AllocError, Global};
 use std::thread;

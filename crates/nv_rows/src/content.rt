@@ -1,7 +1,7 @@
 // Lines of content.
 use crate::fault::RowFault;
 use crate::texts::Texts;
-use nv_text::{number, split_field, unhex};
+use nv_bytes::{number, split_field, unhex};
 
 /// Whether a line is content, and no field.
 pub fn is_content(line: &[u8]) -> bool {

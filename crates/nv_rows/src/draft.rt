@@ -4,7 +4,7 @@ use crate::entry::Field;
 use crate::fault::RowFault;
 use crate::row::{Change, Kind, Row, RowFile, Wanted};
 use crate::texts::Texts;
-use nv_text::{number, split_field};
+use nv_bytes::{number, split_field};
 use std::alloc::Global;
 
 // How many bytes a sink takes a write where a row says nothing.

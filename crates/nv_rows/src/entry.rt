@@ -1,6 +1,6 @@
 // The entries of a file: texts with names, and rows.
 use crate::content::is_content;
-use nv_text::{Lines, split_field};
+use nv_bytes::{Lines, split_field};
 use std::alloc::{AllocError, Global};
 
 /// A field, and the lines of content after it.

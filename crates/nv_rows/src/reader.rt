@@ -6,7 +6,7 @@ use crate::fault::RowFault;
 use crate::row::Row;
 use crate::shape::check;
 use crate::texts::Texts;
-use nv_text::{is, trim};
+use nv_bytes::{is, trim};
 use std::alloc::Global;
 
 /// Reads entries in their order, since a row may include the texts before it, and no two rows have one name.

@@ -1,6 +1,6 @@
 // Texts with names, and what a `$` stands for.
 use crate::fault::RowFault;
-use nv_text::{cut, decimal, unhex};
+use nv_bytes::{cut, decimal, unhex};
 use std::alloc::Global;
 
 #[derive(Drop)]

@@ -3,7 +3,7 @@ use Rattle.std.proofs.Common.{◌∙◌, ℤ, ℕ, List}
 use Rattle.nv_calls.specs.Calls.{Request}
 use Rattle.nv_calls.specs.Logs.{Start}
 use Rattle.nv_script.specs.Scripts.{Setup}
-use Rattle.nv_arrivals.specs.Doings.{Doing}
+use Rattle.nv_script.specs.Doings.{Doing}
 use Rattle.nv_kernel.specs.Answering.{MayCome, IsAnswer}
 use Rattle.nv_arriving.specs.Kernel.{Coming, KeepsOn}
 use Rattle.nv_arriving.specs.Standing.{StandsAt}

@@ -15,7 +15,7 @@ use Rattle.nv_calls.specs.Numbers.{syscall_of}
 use Rattle.nv_calls.proofs.LogLaws.{live_more, status_more, take_whole}
 use Rattle.nv_kernel.specs.Ends.{end_next}
 use Rattle.nv_kernel.specs.Reserved.{most_out}
-use Rattle.nv_served.specs.Learning.{GoesOn}
+use Rattle.nv_calls.specs.Learning.{GoesOn}
 use Rattle.nv_run_tests.specs.Given.{is_input, is_input_as, inputs, reply_with, given_at, answered, from_given, kept_list, IsNext, thing_of, left_of}
 use Rattle.nv_run_tests.specs.inner.Sound.{live_if}
 

@@ -10,7 +10,7 @@ use Rattle.nv_kernel.proofs.devices.Devices.TheSendSync.{the_send as devices_sen
 use Rattle.nv_kernel.specs.contracts.devices.Devices as Devices
 use Rattle.nv_kernel.specs.contracts.kernel.Kernel as Kernel
 use Rattle.nv_kernel.specs.contracts.replying.DevicesAnswers.TheImpl as DevicesAnswers
-use Rattle.nv_arrivals.specs.declared.outside.Outside.{Ghosts}
+use Rattle.nv_script.specs.declared.outside.Outside.{Ghosts}
 use Rattle.nv_arriving.proofs.Sending.{kernel_send, guests_send}
 use Rattle.nv_arriving.specs.Arriving.{start_of_arrivals}
 use Rattle.nv_arriving.specs.Standing.{StandsAt}

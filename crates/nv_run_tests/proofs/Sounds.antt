@@ -6,7 +6,7 @@ use Rattle.nv_calls.specs.Constants.{result_alone}
 use Rattle.nv_calls.specs.Errors.{ENOSYS}
 use Rattle.nv_calls.specs.Logs.{IsLegal, InRange, served, calls_of, live_after, made}
 use Rattle.nv_calls.proofs.LogLaws.{lawful_none, legal_none, lawful_more, legal_more}
-use Rattle.nv_served.proofs.LearningLaws.{legal_on}
+use Rattle.nv_calls.proofs.LearningLaws.{legal_on}
 use Rattle.nv_kernel.specs.Ends.{end_next}
 use Rattle.nv_run_tests.specs.Given.{is_input, inputs, reply_with, answered, from_given, IsNext, kept_list, thing_of, left_of, thing_in, handed, given_by, Gives, IsTold}
 use Rattle.nv_run_tests.specs.inner.Sound.{IsSound}

@@ -1,6 +1,6 @@
 -- A transcript with one thing more.
 use Rattle.std.proofs.Common.{◌≡◌, ◌∙◌, sym, ap, subst, refl, ℕ, List, [], ◌∷◌, ◌++◌, append_assoc, append-nil}
-use Rattle.nv_arrivals.specs.Doings.{Doing, Takes, Says, Hands}
+use Rattle.nv_script.specs.Doings.{Doing, Takes, Says, Hands}
 use Rattle.nv_run_tests.specs.Transcript.{said_text, taken_text, text_of, Wrote}
 use Rattle.nv_run_tests.specs.declared.transcript.Transcript.{Transcript}
 

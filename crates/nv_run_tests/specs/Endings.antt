@@ -1,6 +1,6 @@
 -- How the turns of a run end.
 use Rattle.std.specs.Prelude.{List}
-use Rattle.nv_served.specs.declared.kernel.SyscallKernel.{Ghosts}
+use Rattle.nv_calls.specs.declared.kernel.SyscallKernel.{Ghosts}
 use Rattle.nv_workers.specs.declared.worker.Worker.{Worker}
 use Rattle.nv_workers.specs.inner.Rounds.{AreGone}
 use Rattle.nv_run_tests.specs.declared.scheduler.Ending.{Ending}

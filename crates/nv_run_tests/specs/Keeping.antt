@@ -2,7 +2,7 @@
 use Rattle.std.specs.Prelude.{◌≡◌, true, List}
 use Rattle.nv_calls.specs.Calls.{Entry}
 use Rattle.nv_script.specs.Scripts.{Setup}
-use Rattle.nv_arrivals.specs.Doings.{Doing}
+use Rattle.nv_script.specs.Doings.{Doing}
 use Rattle.nv_arriving.specs.Kernel.{Coming}
 use Rattle.nv_arriving.specs.Reserved.{IsKept}
 use Rattle.nv_arriving.specs.Standing.{StandsAt}

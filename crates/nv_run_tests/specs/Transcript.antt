@@ -1,7 +1,7 @@
 -- A transcript of what was done outside, as text: what was taken behind a <, and what was said behind a >.
 use Rattle.std.specs.Prelude.{◌≡◌, ◌+◌, ◌%◌, ℕ, false, List, [], ◌∷◌, ◌++◌}
-use Rattle.nv_arrivals.specs.Arrivals.{Arrival, Input, InputEnd, ClientsEnd, Connect, Data, End, Time}
-use Rattle.nv_arrivals.specs.Doings.{Said, Accepted, Sent, Closed, Printed, Doing, Takes, Says, Hands}
+use Rattle.nv_script.specs.Arrivals.{Arrival, Input, InputEnd, ClientsEnd, Connect, Data, End, Time}
+use Rattle.nv_script.specs.Doings.{Said, Accepted, Sent, Closed, Printed, Doing, Takes, Says, Hands}
 use Rattle.nv_run_tests.specs.declared.transcript.Transcript.{Transcript}
 
 -- the last digit of a client's number

@@ -3,12 +3,11 @@ ghost use Rattle.std.specs.Prelude.{◌≡◌, [], IsTrue, IfOk};
 ghost use Rattle.nv_script.specs.Scripts.{is_script};
 ghost use Rattle.nv_script.specs.Views.{setup_of};
 
-use nv_arrivals::Outside;
 use nv_arriving::Guests;
 use nv_calls::{Bytes, Call};
 use nv_kernel::{Answers, KeepsAll, Kernel};
 use nv_live::Telling;
-use nv_script::Script;
+use nv_script::{Outside, Script};
 use std::alloc::{AllocError, Global};
 
 /// What answers a live run's calls, for a kernel that keeps each event, and lets nothing go that it says.

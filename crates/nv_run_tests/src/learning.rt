@@ -5,9 +5,8 @@ ghost use Rattle.nv_run_tests.specs.Given.{is_input, answered, thing_of, left_of
 
 use crate::outside::{Outside, is_input, wants};
 use nv_calls::errors::ENOSYS;
-use nv_calls::{Bytes, Call, EXIT, EXIT_GROUP, Event};
+use nv_calls::{Bytes, Call, EXIT, EXIT_GROUP, Event, Recorded, SyscallKernel};
 use nv_kernel::spare::{blank, fill, keep, next_end};
-use nv_served::{Recorded, SyscallKernel};
 use std::alloc::{AllocError, Global};
 use std::marker::Model;
 

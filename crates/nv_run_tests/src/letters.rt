@@ -3,7 +3,7 @@ ghost use Rattle.std.specs.Prelude.{◌≡◌, []};
 use crate::learning::LearningKernel;
 use crate::outside::Outside;
 use crate::runs::{beside, one_by_one, text_of};
-use nv_served::Recorded;
+use nv_calls::Recorded;
 use nv_workers::OpenGate;
 use std::alloc::Global;
 use std::process::Abort;

@@ -1,8 +1,7 @@
 use crate::refusing::RefusingKernel;
 use crate::runs::kernel;
-use nv_calls::{Bytes, Call, shaped};
+use nv_calls::{Bytes, Call, SyscallKernel, shaped};
 use nv_kernel::ScriptKernel;
-use nv_served::SyscallKernel;
 use std::alloc::{AllocError, Global};
 use std::test::Fail;
 

@@ -1,12 +1,11 @@
 // A kernel over another one, with the reservations that are refused.
 ghost use Rattle.std.specs.Prelude.{◌≡◌, IsTrue, IsErr, OnOk};
 ghost use Rattle.nv_calls.specs.Calls.{request};
-ghost use Rattle.nv_served.specs.Learning.{GoesOn};
+ghost use Rattle.nv_calls.specs.Learning.{GoesOn};
 ghost use Rattle.nv_calls.specs.Shapes.{IsShaped};
 ghost use Rattle.nv_run_tests.specs.Refusing.{is_refused};
 
-use nv_calls::{Call, Event};
-use nv_served::{Recorded, SyscallKernel};
+use nv_calls::{Call, Event, Recorded, SyscallKernel};
 use std::alloc::AllocError;
 
 /// A kernel that has no memory for some of the calls: those whose reservation has one of the numbers, counted from 0.

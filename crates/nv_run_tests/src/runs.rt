@@ -7,11 +7,11 @@ ghost use Rattle.nv_replay.specs.Account.{AreFresh};
 
 use crate::{BUDGET, MOST_EVENTS};
 use nv_bpf::Filter;
+use nv_calls::{Recorded, SyscallKernel};
 use nv_guest::Guest;
 use nv_kernel::ScriptKernel;
 use nv_replay::{Account, Version};
 use nv_room::Room;
-use nv_served::{Recorded, SyscallKernel};
 use nv_threads::Process;
 use nv_workers::{Gate, Terms, end, run_all, staff};
 use std::alloc::{AllocError, Global};

@@ -1,11 +1,11 @@
 // What was done outside, as text.
 ghost use Rattle.std.specs.Prelude.{◌≡◌, ◌+◌, ◌%◌, ◌++◌, ◌∷◌, [], false};
-ghost use Rattle.nv_arrivals.specs.Doings.{Takes, Says};
-ghost use Rattle.nv_arrivals.specs.Views.{view as arrival_of, said_view};
+ghost use Rattle.nv_script.specs.Doings.{Takes, Says};
+ghost use Rattle.nv_script.specs.ArrivalViews.{view as arrival_of, said_view};
 ghost use Rattle.nv_arriving.specs.Telling.{Adds};
 ghost use Rattle.nv_run_tests.specs.Transcript.{Wrote, digit_of, said_text, taken_text};
 
-use nv_arrivals::{Arrival, Said};
+use nv_script::{Arrival, Said};
 use std::alloc::Global;
 
 /// What was taken, behind a `<`, and what was said, behind a `>`, in the order in which it was done.

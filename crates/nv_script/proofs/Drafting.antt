@@ -1,6 +1,6 @@
 -- A draft over the lines of a text.
 use Rattle.std.proofs.Common.{◌≡◌, ℕ, ◌+◌, List, [], ◌∷◌, Option, Result, sym, ap, ◌∙◌, Ok}
-use Rattle.nv_text.specs.Lines.{lines}
+use Rattle.nv_bytes.specs.Lines.{lines}
 use Rattle.nv_script.specs.declared.form.Form.{Form}
 use Rattle.nv_script.specs.declared.fault.ScriptCause.{ScriptCause}
 use Rattle.nv_script.specs.Entry.{form_of}

@@ -2,14 +2,14 @@
 use Rattle.std.proofs.Common.{◌≡◌, ℕ, ◌+◌, ◌^◌, ◌<◌, true, false, List, [], ◌∷◌, ◌++◌, Result, Ok, Err, codes, nat_lt, length, refl, sym, ap, ◌∙◌, arith, lit<, append_assoc}
 use Rattle.std.specs.List.{All}
 use Rattle.std.proofs.lemmas.Bool.Decides.{nat_tests}
-use Rattle.nv_text.specs.Lines.{lines}
-use Rattle.nv_text.specs.Names.{defined}
-use Rattle.nv_text.specs.Numbers.{number_of, decimal_of}
-use Rattle.nv_text.proofs.Laws.{lines-line}
-use Rattle.nv_arrivals.specs.Reading.{words}
-use Rattle.nv_arrivals.proofs.Digits.{decimal-lacks, number_of-decimal}
+use Rattle.nv_bytes.specs.Lines.{lines}
+use Rattle.nv_bytes.specs.Names.{defined}
+use Rattle.nv_bytes.specs.Numbers.{number_of, decimal_of}
+use Rattle.nv_bytes.proofs.Laws.{lines-line}
+use Rattle.nv_script.specs.Reading.{words}
+use Rattle.nv_script.proofs.Digits.{decimal-lacks, number_of-decimal}
 use Rattle.std.proofs.lemmas.List.Elements.{All-append}
-use Rattle.nv_arrivals.proofs.Texts.{Lacks, plain}
+use Rattle.nv_script.proofs.Texts.{Lacks, plain}
 use Rattle.nv_script.specs.declared.form.Form.TheVariants.{Fifth}
 use Rattle.nv_script.specs.declared.fault.ScriptFault.{ScriptFault}
 use Rattle.nv_script.specs.Entry.{Hand, is_hand, hand_with, entry_kinds, kind_of, entry_of}

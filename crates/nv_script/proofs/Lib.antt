@@ -1,3 +1,12 @@
+pub mod Digits
+pub mod Hex
+pub mod Texts
+pub mod ReadBack
+pub mod SoundLines
+pub mod Cutting
+pub mod Going
+pub mod Orderly
+pub mod Plain
 pub mod Sound
 pub mod TooManyFields
 pub mod Drafting

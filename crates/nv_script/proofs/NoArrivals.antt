@@ -1,8 +1,8 @@
 -- Nothing comes in a script of the first three forms.
 use Rattle.std.proofs.Common.{◌≡◌, ℕ, ◌+◌, Bool, true, false, ◌&&◌, cond, nat_lt, nat_le, List, [], ◌∷◌, ◌++◌, Some, None, is_some, Result, Ok, Err, bytes_eq, codes, length, refl, sym, ap, ◌∙◌}
-use Rattle.nv_text.specs.Fields.{first_word, rest_of}
-use Rattle.nv_text.specs.Lines.{lines}
-use Rattle.nv_arrivals.specs.Reading.{arrival_of}
+use Rattle.nv_bytes.specs.Fields.{first_word, rest_of}
+use Rattle.nv_bytes.specs.Lines.{lines}
+use Rattle.nv_script.specs.Reading.{arrival_of}
 use Rattle.nv_script.specs.declared.form.Form.{Form}
 use Rattle.nv_script.specs.declared.form.Form.TheVariants as form
 use Rattle.nv_script.specs.declared.fault.ScriptCause.{ScriptCause}

@@ -2,13 +2,13 @@
 use Rattle.std.proofs.Common.{◌≡◌, ℕ, ◌+◌, ◌==◌, Bool, true, false, not, ◌&&◌, cond, nat_lt, nat_le, length, List, [], ◌∷◌, ◌++◌, Option, Some, None, is_some, Result, Ok, Err, codes, refl, sym, ap, ◌∙◌}
 use Rattle.std.specs.List.{All, list_all}
 use Rattle.std.proofs.lemmas.Bool.{and_parts}
-use Rattle.nv_text.specs.Fields.{first_word, rest_of}
-use Rattle.nv_text.specs.Lines.{lines}
-use Rattle.nv_text.specs.Names.{defined}
-use Rattle.nv_text.proofs.Laws.{lines-line}
-use Rattle.nv_arrivals.specs.declared.word.Word.{Word}
-use Rattle.nv_arrivals.specs.Order.{Came, most_clients, nothing_came}
-use Rattle.nv_arrivals.specs.Reading.{word_of, is_word as is_arrival_word, is_timeless, arrival_of}
+use Rattle.nv_bytes.specs.Fields.{first_word, rest_of}
+use Rattle.nv_bytes.specs.Lines.{lines}
+use Rattle.nv_bytes.specs.Names.{defined}
+use Rattle.nv_bytes.proofs.Laws.{lines-line}
+use Rattle.nv_script.specs.declared.word.Word.{Word}
+use Rattle.nv_script.specs.Order.{Came, most_clients, nothing_came}
+use Rattle.nv_script.specs.Reading.{word_of, is_word as is_arrival_word, is_timeless, arrival_of}
 use Rattle.nv_script.specs.declared.form.Form.{Form}
 use Rattle.nv_script.specs.declared.form.Form.TheVariants as form
 use Rattle.nv_script.specs.declared.kind.Kind.{Kind}

@@ -1,7 +1,7 @@
 -- Which scripts have the calls that wait for several things at once.
 use Rattle.std.proofs.Common.{◌≡◌, ℕ, Bool, true, false, cond, List, ◌∷◌, Some, None, Result, Ok, Err, codes, bytes_eq, refl, sym, ap, ◌∙◌}
 use Rattle.std.proofs.lemmas.Slice.Eq.{bytes_eq-Decides}
-use Rattle.nv_text.specs.Lines.{lines}
+use Rattle.nv_bytes.specs.Lines.{lines}
 use Rattle.nv_script.specs.declared.form.Form.{Form}
 use Rattle.nv_script.specs.declared.form.Form.TheVariants as form
 use Rattle.nv_script.specs.declared.fault.ScriptFault.{ScriptFault}

@@ -7,15 +7,15 @@ use Rattle.std.proofs.lemmas.Bool.{and_parts, and_from, or_parts}
 use Rattle.std.proofs.lemmas.Bool.Decides.{nat_tests}
 use Rattle.std.proofs.lemmas.List.Folds.{list_all-append, list_any-append}
 use Rattle.std.proofs.lemmas.Slice.Eq.{bytes_eq-Decides}
-use Rattle.nv_text.specs.Fields.{first_word, rest_of, fields}
-use Rattle.nv_text.specs.Numbers.{number_of, unhexed}
-use Rattle.nv_text.specs.Lines.{lines}
-use Rattle.nv_arrivals.specs.declared.arrival.ArrivalCause.{ArrivalCause}
-use Rattle.nv_arrivals.specs.Arrivals.{Arrival, is_arrival}
-use Rattle.nv_arrivals.specs.Reading.{arrival_of}
-use Rattle.nv_arrivals.specs.Order.{Came, most_clients, nothing_came, admitted, after, are_arrivals}
-use Rattle.nv_arrivals.proofs.Sound.{arrival_of-sound}
-use Rattle.nv_arrivals.proofs.Orderly.{after-more, after-none, are_arrivals-from}
+use Rattle.nv_bytes.specs.Fields.{first_word, rest_of, fields}
+use Rattle.nv_bytes.specs.Numbers.{number_of, unhexed}
+use Rattle.nv_bytes.specs.Lines.{lines}
+use Rattle.nv_script.specs.declared.arrival.ArrivalCause.{ArrivalCause}
+use Rattle.nv_script.specs.Arrivals.{Arrival, is_arrival}
+use Rattle.nv_script.specs.Reading.{arrival_of}
+use Rattle.nv_script.specs.Order.{Came, most_clients, nothing_came, admitted, after, are_arrivals}
+use Rattle.nv_script.proofs.SoundLines.{arrival_of-sound}
+use Rattle.nv_script.proofs.Orderly.{after-more, after-none, are_arrivals-from}
 use Rattle.nv_script.specs.declared.entry.Clock.{Clock}
 use Rattle.nv_script.specs.declared.form.Form.{Form}
 use Rattle.nv_script.specs.declared.fault.ScriptCause.{ScriptCause}

@@ -1,7 +1,7 @@
 -- Lines with too many fields.
 use Rattle.std.proofs.Common.{◌≡◌, ◌<◌, ℕ, List, [], ◌∷◌, None, Err, length, refl, arith}
-use Rattle.nv_text.specs.Fields.{fields}
-use Rattle.nv_text.proofs.Laws.{fields-some}
+use Rattle.nv_bytes.specs.Fields.{fields}
+use Rattle.nv_bytes.proofs.Laws.{fields-some}
 use Rattle.nv_script.specs.declared.fault.ScriptCause.TheVariants.{Shape}
 use Rattle.nv_script.specs.Entry.{file_entry, clock_of, connection_of}
 

@@ -4,15 +4,15 @@ use Rattle.std.specs.List.{All, list_all, onto_first}
 use Rattle.std.specs.Result.{is_ok}
 use Rattle.std.proofs.lemmas.Bool.{and_parts}
 use Rattle.std.proofs.lemmas.List.Elements.{All-head, All-tail}
-use Rattle.nv_text.specs.Lines.{is_newline, lines}
-use Rattle.nv_text.specs.Numbers.{hex_of}
-use Rattle.nv_text.proofs.Laws.{lines-line}
-use Rattle.nv_arrivals.specs.declared.arrival.ArrivalCause.{ArrivalCause}
-use Rattle.nv_arrivals.specs.Arrivals.{Arrival, Input, InputEnd, ClientsEnd, Connect, Data, End, Time, is_arrival, BringsBytes}
-use Rattle.nv_arrivals.specs.Order.{Came, most_clients, nothing_came, admitted, onward as onward_in, after, are_orderly}
-use Rattle.nv_arrivals.specs.Writing.{front, is_line, input_text, line_text}
-use Rattle.nv_arrivals.proofs.Orderly.{after-append, after-first, after-none}
-use Rattle.nv_arrivals.proofs.ReadBack.{read_back, line_text-lacks, line_text-begins}
+use Rattle.nv_bytes.specs.Lines.{is_newline, lines}
+use Rattle.nv_bytes.specs.Numbers.{hex_of}
+use Rattle.nv_bytes.proofs.Laws.{lines-line}
+use Rattle.nv_script.specs.declared.arrival.ArrivalCause.{ArrivalCause}
+use Rattle.nv_script.specs.Arrivals.{Arrival, Input, InputEnd, ClientsEnd, Connect, Data, End, Time, is_arrival, BringsBytes}
+use Rattle.nv_script.specs.Order.{Came, most_clients, nothing_came, admitted, onward as onward_in, after, are_orderly}
+use Rattle.nv_script.specs.Writing.{front, is_line, input_text, line_text}
+use Rattle.nv_script.proofs.Orderly.{after-append, after-first, after-none}
+use Rattle.nv_script.proofs.ReadBack.{read_back, line_text-lacks, line_text-begins}
 use Rattle.nv_script.specs.declared.form.Form.{Form}
 use Rattle.nv_script.specs.declared.form.Form.TheVariants.{Fifth}
 use Rattle.nv_script.specs.declared.fault.ScriptCause.{ScriptCause}

@@ -2,13 +2,13 @@
 use Rattle.std.specs.Prelude.{ℕ, Bool, true, false, not, ◌&&◌, ◌||◌, List, [], ◌∷◌, ◌++◌, Option, Some, None, Result, Ok, Err, if◌then◌else◌, ◌==◌, nat_lt, nat_le, length, bytes_eq, codes, option_map}
 use Rattle.std.specs.Option.{ok_or}
 use Rattle.std.specs.List.{list_all}
-use Rattle.nv_text.specs.Numbers.{number_of, unhexed}
-use Rattle.nv_text.specs.Fields.{first_word, rest_of, fields}
-use Rattle.nv_text.specs.Names.{defined}
-use Rattle.nv_arrivals.specs.declared.arrival.ArrivalCause.{ArrivalCause}
-use Rattle.nv_arrivals.specs.declared.arrival.ArrivalCause.TheVariants as arrival
-use Rattle.nv_arrivals.specs.Arrivals.{Arrival}
-use Rattle.nv_arrivals.specs.Reading.{is_word as is_arrival_word, is_timeless_word, arrival_of}
+use Rattle.nv_bytes.specs.Numbers.{number_of, unhexed}
+use Rattle.nv_bytes.specs.Fields.{first_word, rest_of, fields}
+use Rattle.nv_bytes.specs.Names.{defined}
+use Rattle.nv_script.specs.declared.arrival.ArrivalCause.{ArrivalCause}
+use Rattle.nv_script.specs.declared.arrival.ArrivalCause.TheVariants as arrival
+use Rattle.nv_script.specs.Arrivals.{Arrival}
+use Rattle.nv_script.specs.Reading.{is_word as is_arrival_word, is_timeless_word, arrival_of}
 use Rattle.nv_script.specs.declared.entry.Clock.{Clock}
 use Rattle.nv_script.specs.declared.fault.ScriptCause.{ScriptCause}
 use Rattle.nv_script.specs.declared.fault.ScriptCause.TheVariants.{Word, Shape, Range, Twice, Long}

@@ -1,6 +1,6 @@
 -- The line of one more planned length, behind the text of a script.
 use Rattle.std.specs.Prelude.{ℕ, Bool, not, ◌&&◌, List, [], ◌∷◌, ◌++◌, codes, nat_lt, length}
-use Rattle.nv_text.specs.Numbers.{decimal_of}
+use Rattle.nv_bytes.specs.Numbers.{decimal_of}
 use Rattle.nv_script.specs.Entry.{is_hand}
 use Rattle.nv_script.specs.Scripts.{Setup, has_hand}
 

@@ -1,3 +1,10 @@
+pub mod Arrivals
+pub mod Reading
+pub mod Writing
+pub mod Order
+pub mod Pieces
+pub mod Doings
+pub mod ArrivalViews
 pub mod Entry
 pub mod Scripts
 pub mod Transcripts

@@ -1,10 +1,10 @@
 -- What a script means: what a run begins with, or the first faulty line with its first cause.
 use Rattle.std.specs.Prelude.{ℕ, Bool, true, not, ◌&&◌, List, [], ◌∷◌, ◌++◌, Option, Some, None, is_some, unwrap_or, Result, Ok, Err, if◌then◌else◌, nat_lt, nat_le, ◌+◌, ◌^◌, ◌==◌, length, bytes_eq}
 use Rattle.std.specs.List.{list_all, list_any}
-use Rattle.nv_text.specs.Lines.{lines, line_number}
-use Rattle.nv_arrivals.specs.declared.arrival.ArrivalCause.{ArrivalCause}
-use Rattle.nv_arrivals.specs.Arrivals.{Arrival}
-use Rattle.nv_arrivals.specs.Order.{Came, most_clients, nothing_came, admitted, are_arrivals}
+use Rattle.nv_bytes.specs.Lines.{lines, line_number}
+use Rattle.nv_script.specs.declared.arrival.ArrivalCause.{ArrivalCause}
+use Rattle.nv_script.specs.Arrivals.{Arrival}
+use Rattle.nv_script.specs.Order.{Came, most_clients, nothing_came, admitted, are_arrivals}
 use Rattle.nv_script.specs.declared.entry.Clock.{Clock}
 use Rattle.nv_script.specs.declared.form.Form.{Form}
 use Rattle.nv_script.specs.declared.fault.ScriptCause.{ScriptCause}

@@ -1,10 +1,10 @@
 -- The text of a script, and of what came after it.
 use Rattle.std.specs.Prelude.{◌≡◌, ℕ, Bool, not, ◌&&◌, List, ◌++◌, Ok, codes}
-use Rattle.nv_text.specs.Fields.{first_word}
+use Rattle.nv_bytes.specs.Fields.{first_word}
 use Rattle.std.specs.List.{flat_map}
-use Rattle.nv_arrivals.specs.Arrivals.{Arrival}
-use Rattle.nv_arrivals.specs.Reading.{is_word as is_arrival_word}
-use Rattle.nv_arrivals.specs.Writing.{line_text}
+use Rattle.nv_script.specs.Arrivals.{Arrival}
+use Rattle.nv_script.specs.Reading.{is_word as is_arrival_word}
+use Rattle.nv_script.specs.Writing.{line_text}
 use Rattle.nv_script.specs.Entry.{is_passed_over}
 use Rattle.nv_script.specs.Scripts.{Setup, script_of}
 

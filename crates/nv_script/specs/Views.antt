@@ -1,7 +1,7 @@
 -- The code's values as the definitions see them.
 use Rattle.std.specs.Prelude.{map}
 use Rattle.nv_script.specs.declared.script.Script.{Script}
-use Rattle.nv_arrivals.specs.Views.{view}
+use Rattle.nv_script.specs.ArrivalViews.{view}
 use Rattle.nv_script.specs.Scripts.{Setup}
 
 -- what a script says, as lists

@@ -1,16 +1,17 @@
 // A script in the making.
 ghost use Rattle.std.specs.Prelude.{◌≡◌, false, ◌&&◌, nat_lt, nat_le, [], ◌∷◌, ◌++◌, length, codes, Ok, IfOk, OnOk};
-ghost use Rattle.nv_arrivals.specs.Views as came;
+ghost use Rattle.nv_script.specs.ArrivalViews as came;
 ghost use Rattle.nv_script.specs.Scripts.{blank, has_name, has_hand, with_argument, with_input, with_named_file, with_clock, with_seed, with_hand, with_connection, with_arrival, with_entry, finished};
 ghost use Rattle.nv_script.specs.Views.{setup_of};
 ghost use Rattle.nv_script.specs.inner.Views.{view, became};
 
-use crate::Script;
+use crate::arrival::Arrival;
 use crate::entry::{Clock, Entry, cause_of};
 use crate::fault::ScriptCause;
 use crate::form::{Form, is_fifth};
-use nv_arrivals::{Arrival, Order};
-use nv_text::Names;
+use crate::order::Order;
+use crate::script::Script;
+use nv_bytes::Names;
 use std::alloc::{AllocError, Global};
 use std::marker::Model;
 
@@ -49,8 +50,8 @@ pub struct Draft<'a> {
 
 impl<'a> Model for Draft<'a> {
     ghost use Rattle.std.specs.Prelude.{◌≡◌, ℕ, List, is_some, map};
-    ghost use Rattle.nv_text.specs.Names.{defined};
-    ghost use Rattle.nv_arrivals.specs.Views as came;
+    ghost use Rattle.nv_bytes.specs.Names.{defined};
+    ghost use Rattle.nv_script.specs.ArrivalViews as came;
     ghost use Rattle.nv_script.specs.Scripts as rule;
 
     ghost Value = { rule.Draft };

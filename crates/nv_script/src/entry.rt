@@ -1,19 +1,19 @@
 // What a line of a script says.
 ghost use Rattle.std.specs.Prelude.{◌≡◌, option_map, IfOk};
 ghost use Rattle.std.specs.List.{list_all};
-ghost use Rattle.nv_text.specs.Fields.{first_word, rest_of, fields};
-ghost use Rattle.nv_text.specs.Numbers.{number_of, unhexed};
+ghost use Rattle.nv_bytes.specs.Fields.{first_word, rest_of, fields};
+ghost use Rattle.nv_bytes.specs.Numbers.{number_of, unhexed};
 ghost use Rattle.nv_script.specs.Entry as rule;
 ghost use Rattle.nv_script.specs.Entry.{is_printable, is_argument, is_file_byte, is_dots, is_file_name, is_passed_over, argument_entry, file_with, file_entry, clock_entry, clock_with, clock_of, hand_entry, hand_with, connection_entry, connection_with, connection_of, shaped, entry_by, entry_with, cause_of, arrives, begins_arrival, kind_of, entry_of};
-ghost use Rattle.nv_arrivals.specs.Reading.{arrival_of};
-ghost use Rattle.nv_arrivals.specs.Views as came;
+ghost use Rattle.nv_script.specs.Reading.{arrival_of};
+ghost use Rattle.nv_script.specs.ArrivalViews as came;
 ghost use Rattle.nv_script.specs.inner.Views.{found_view, result_view};
 
+use crate::arrival::{Arrival, ArrivalCause};
 use crate::fault::ScriptCause;
 use crate::form::Form;
 use crate::kind::{Kind, kind_of};
-use nv_arrivals::{Arrival, ArrivalCause};
-use nv_text::{is, number, split_field, unhex};
+use nv_bytes::{is, number, split_field, unhex};
 use std::alloc::{AllocError, Global};
 
 /// When the clock begins, and how many nanoseconds it goes on with each logged call.
@@ -319,7 +319,7 @@ fn read_arrival<'a>(
 ) -> Result<Result<Entry<'a>, ScriptCause>, AllocError>
     ensures { IfOk result (λ entry. result_view entry ≡ arrives (arrival_of line.now)) }
 {
-    Ok(arrives(nv_arrivals::read(alloc, line)?))
+    Ok(arrives(crate::line::read_arrival(alloc, line)?))
 }
 
 // Whether a line says what comes next.
@@ -329,11 +329,11 @@ fn begins_arrival(form: Form, line: &[u8]) -> bool
     match form {
         Form::Fourth => {
             let (word, _) = split_field(line);
-            nv_arrivals::is_timeless_word(word)
+            crate::is_timeless_word(word)
         }
         Form::Fifth => {
             let (word, _) = split_field(line);
-            nv_arrivals::is_word(word)
+            crate::is_word(word)
         }
         Form::First | Form::Second | Form::Third => false,
     }

@@ -2,7 +2,7 @@
 ghost use Rattle.std.specs.Prelude.{◌≡◌};
 ghost use Rattle.nv_script.specs.Entry.{form_of, is_fifth};
 
-use nv_text::is;
+use nv_bytes::is;
 
 /// Which lines a script may have.
 #[derive(Clone, Copy, Debug, PartialEq, Eq)]

@@ -3,7 +3,7 @@ ghost use Rattle.std.specs.Prelude.{◌≡◌};
 ghost use Rattle.nv_script.specs.Entry.{in_form, kind_of};
 
 use crate::form::Form;
-use nv_text::find;
+use nv_bytes::find;
 
 /// What a line is about.
 #[derive(Clone, Copy, Debug, PartialEq, Eq)]

@@ -1,9 +1,9 @@
 // What holds of the texts of scripts.
 ghost use Rattle.std.specs.Prelude.{◌≡◌, [], ◌++◌, ◌∷◌, ◌==◌, not, ℕ, List, Ok, true, false, bytes_eq, codes};
 ghost use Rattle.std.specs.List.{All, list_all};
-ghost use Rattle.nv_text.specs.Lines.{lines};
-ghost use Rattle.nv_arrivals.specs.Arrivals.{Arrival, is_arrival, BringsBytes};
-ghost use Rattle.nv_arrivals.specs.Order.{most_clients, are_orderly};
+ghost use Rattle.nv_bytes.specs.Lines.{lines};
+ghost use Rattle.nv_script.specs.Arrivals.{Arrival, is_arrival, BringsBytes};
+ghost use Rattle.nv_script.specs.Order.{most_clients, are_orderly};
 ghost use Rattle.nv_script.specs.Scripts.{Setup, script_of};
 ghost use Rattle.nv_script.specs.HandLines.{hand_line, can_plan, planned_too};
 ghost use Rattle.nv_script.specs.Transcripts.{lines_of, continued_by, IsTranscript, says_what_comes};

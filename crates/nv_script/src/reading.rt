@@ -1,17 +1,17 @@
 // The reader of scripts.
 ghost use Rattle.std.specs.Prelude.{◌≡◌, ◌⊎◌, Ok, Err, IsTrue, IfOk, IfErr};
-ghost use Rattle.nv_text.specs.Lines.{lines};
+ghost use Rattle.nv_bytes.specs.Lines.{lines};
 ghost use Rattle.nv_script.specs.Scripts.{blank, with_script_line, drafted, script_of, is_script};
 ghost use Rattle.nv_script.specs.Views.{setup_of};
 ghost use Rattle.nv_script.specs.inner.Views.{became};
 ghost use Rattle.nv_script.specs.declared.fault.ScriptFault.TheVariants.{Memory};
 
-use crate::Script;
 use crate::draft::Draft;
 use crate::entry::entry_of;
 use crate::fault::{ScriptCause, ScriptFault};
 use crate::form::{Form, form_of};
-use nv_text::{Lines, line_number};
+use crate::script::Script;
+use nv_bytes::{Lines, line_number};
 use std::alloc::{AllocError, Global};
 
 #[tactic(auto, unfolding(crate::specs::Scripts::with_script_line))]

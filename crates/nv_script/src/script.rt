@@ -1,5 +1,5 @@
 // What a script says.
-use nv_arrivals::Arrival;
+use crate::arrival::Arrival;
 
 /// What a run begins with. The limits that every script is within are `is_script` of specs/Scripts.antt.
 #[derive(Drop)]

@@ -2,7 +2,7 @@
 use Rattle.std.proofs.Common.{◌∙◌, sym, ap, subst, List, [], ◌++◌, append-nil, append_assoc}
 use Rattle.nv_calls.specs.Calls.{Entry}
 use Rattle.nv_calls.specs.Logs.{IsLegal, Start}
-use Rattle.nv_served.proofs.LearningLaws.{legal_front}
+use Rattle.nv_calls.proofs.LearningLaws.{legal_front}
 use Rattle.nv_sequence.specs.Passing.{Grows}
 
 pub legal_before : (start : Start) (log new_log : List Entry) → Grows log new_log → IsLegal start new_log → IsLegal start log

@@ -2,7 +2,7 @@
 ghost use Rattle.std.specs.Prelude.{◌≡◌, ◌≤◌, ◌<◌, ◌++◌, [], ◌∷◌, Some, None, true, false, length, Contains, option_map};
 ghost use Rattle.nv_calls.specs.Logs.{served, live_after, IsLawful};
 ghost use Rattle.nv_calls.specs.Limits.{MOST_EVENTS};
-ghost use Rattle.nv_served.specs.Learning.{FromAny};
+ghost use Rattle.nv_calls.specs.Learning.{FromAny};
 ghost use Rattle.nv_threads.specs.Threads.{threads};
 ghost use Rattle.nv_replay.specs.Follow.{IsInStep, follow, judge_of};
 ghost use Rattle.nv_replay.specs.Hands.{has, stays};
@@ -12,8 +12,8 @@ ghost use Rattle.nv_replay.specs.Turns.{TookTurn};
 ghost use Rattle.nv_sequence.specs.Passing.{Grows, HasLed, TurnDone, MayHaveTurn, followed, given_up, turned_of};
 
 use nv_bpf::Filter;
+use nv_calls::{Recorded, SyscallKernel};
 use nv_replay::{Fate, Led, Version, follow_all};
-use nv_served::{Recorded, SyscallKernel};
 
 /// What has become of a version at its turn.
 #[derive(Clone, Copy, Debug, PartialEq, Eq, Drop)]

@@ -2,7 +2,7 @@
 ghost use Rattle.std.specs.Prelude.{◌≡◌, ◌≤◌, ◌+◌, ◌++◌, [], ℕ, length, map, option_map};
 ghost use Rattle.nv_calls.specs.Limits.{MOST_EVENTS};
 ghost use Rattle.nv_calls.specs.Logs.{IsLawful, Start};
-ghost use Rattle.nv_served.specs.Learning.{FromAny};
+ghost use Rattle.nv_calls.specs.Learning.{FromAny};
 ghost use Rattle.nv_threads.specs.Threads.{threads};
 ghost use Rattle.nv_replay.specs.Follow.{judge_of, IsInStep};
 ghost use Rattle.nv_replay.specs.Sequence.{cuts_of};
@@ -18,8 +18,8 @@ ghost use Rattle.nv_sequence.specs.inner.Passing.{FirstMayHaveTurn, NextTurn};
 use crate::{Turned, take_turn};
 use arrayvec::ArrayVec;
 use nv_bpf::Filter;
+use nv_calls::{Recorded, SyscallKernel};
 use nv_replay::{Account, Version, follow_all};
-use nv_served::{Recorded, SyscallKernel};
 
 /// The whole monitor: the versions lead in order, the others follow the log, judged by the rules if there are any. A version that
 /// ends leaves the order, one that has made the log as long as one of `hands` goes to its end; once the process has ended, or

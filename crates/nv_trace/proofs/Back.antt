@@ -10,7 +10,7 @@ use borrow.Author.Gap.{read_sfits}
 use mathlib.Core.Option.{some, some-injective, some-ne-none}
 use lib.ListN.{get_elem?}
 use mir.Syntax.{w32}
-use Rattle.nv_bytes.specs.Fields.{field_at}
+use Rattle.nv_bytes.specs.LittleEndian.{field_at}
 use Rattle.nv_calls.specs.Calls.{Entry}
 use Rattle.nv_calls.specs.Held.{AreBytes}
 use Rattle.nv_calls.specs.Logs.{InRange}

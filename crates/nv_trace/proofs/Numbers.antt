@@ -4,7 +4,7 @@ use Rattle.std.proofs.lemmas.List.{drop-drop}
 use Rattle.std.proofs.lemmas.Nat.{le_bytes_4}
 use Rattle.byteorder.specs.Endian.{little_number, little_bytes}
 use Rattle.byteorder.specs.Numbers.{little_from-lt}
-use Rattle.nv_bytes.specs.Fields.{field_at}
+use Rattle.nv_bytes.specs.LittleEndian.{field_at}
 use Rattle.nv_bytes.proofs.FieldLaws.{field_at-append, field_at-little_bytes}
 use Rattle.nv_trace.specs.Trace.{number_bytes}
 

@@ -1,7 +1,7 @@
 -- The events that bytes hold, field by field.
 use Rattle.std.specs.Prelude.{ℕ, zero, suc, ◌+◌, ◌==◌, List, [], ◌∷◌, take, drop}
 use Rattle.std.specs.Int.{w32, cast_signed}
-use Rattle.nv_bytes.specs.Fields.{field_at}
+use Rattle.nv_bytes.specs.LittleEndian.{field_at}
 use Rattle.nv_calls.specs.Calls.{Request, Response, Entry}
 
 -- how many events the head tells

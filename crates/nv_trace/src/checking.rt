@@ -9,8 +9,7 @@ ghost use Rattle.nv_trace.specs.declared.fault.CheckFault.TheVariants.{Memory};
 use crate::CheckFault;
 use crate::live::{first_thread, lives, note};
 use arrayvec::ArrayVec;
-use nv_calls::{Event, MOST_THREADS, Reply, shaped};
-use nv_served::{Recorded, Scripted, SyscallKernel};
+use nv_calls::{Event, MOST_THREADS, Recorded, Reply, Scripted, SyscallKernel, shaped};
 
 fn is_reply(reply: &Reply, other: &Reply) -> bool
     ensures { result ≡ is_reply (response reply.now) (response other.now) }

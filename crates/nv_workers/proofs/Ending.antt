@@ -5,7 +5,7 @@ use mathlib.Core.Option.{some, some-injective, some-ne-none}
 use lib.ListN.{get_elem?}
 use Rattle.nv_calls.specs.Calls.{Entry}
 use Rattle.nv_calls.specs.Logs.{InRange, IsLawful, IsLegal, Start}
-use Rattle.nv_served.proofs.LearningLaws.{legal_take}
+use Rattle.nv_calls.proofs.LearningLaws.{legal_take}
 use Rattle.nv_words.specs.Spelling.{spell}
 use Rattle.nv_words.proofs.SpellLaws.{spell_alone, spell_length}
 use Rattle.nv_room.specs.declared.view.View.{View}

@@ -6,7 +6,7 @@ use Rattle.nv_calls.specs.Limits.{MOST_EVENTS}
 use Rattle.nv_calls.specs.Logs.{IsLawful}
 use Rattle.nv_calls.proofs.LogLaws.{lawful_few}
 use Rattle.nv_words.specs.Spelling.{spell}
-use Rattle.nv_served.specs.declared.kernel.SyscallKernel.{Ghosts}
+use Rattle.nv_calls.specs.declared.kernel.SyscallKernel.{Ghosts}
 use Rattle.nv_threads.specs.Threads.{Proc}
 use Rattle.nv_room.specs.declared.room.Room.{Room}
 use Rattle.nv_replay.specs.Follow.{Judge}

@@ -4,9 +4,9 @@ use Rattle.std.specs.Prelude.{◌==◌, ◌||◌}
 use mathlib.Core.Option.{some}
 use Rattle.nv_calls.specs.Calls.{Entry}
 use Rattle.nv_calls.specs.Logs.{IsLawful}
-use Rattle.nv_served.specs.Learning.{FromAny}
-use Rattle.nv_served.proofs.LearningLaws.{as_told, legal_told}
-use Rattle.nv_served.specs.declared.kernel.SyscallKernel.{Ghosts}
+use Rattle.nv_calls.specs.Learning.{FromAny}
+use Rattle.nv_calls.proofs.LearningLaws.{as_told, legal_told}
+use Rattle.nv_calls.specs.declared.kernel.SyscallKernel.{Ghosts}
 use Rattle.nv_words.specs.Spelling.{spell}
 use Rattle.nv_room.specs.declared.view.View.{View}
 use Rattle.nv_room.specs.declared.view.Span.{Span}

@@ -3,7 +3,7 @@ use Rattle.std.proofs.Common.{◌≡◌, ◌∙◌, sym, ap, subst, refl, ℕ, z
 use Rattle.std.specs.Option.{MatchOption}
 use mathlib.Core.Option.{some}
 use lib.ListN.{get_elem?}
-use Rattle.nv_served.specs.declared.kernel.SyscallKernel.{Ghosts}
+use Rattle.nv_calls.specs.declared.kernel.SyscallKernel.{Ghosts}
 use Rattle.nv_room.specs.declared.room.Room.{Room}
 use Rattle.nv_room.specs.declared.room.Reader.{Reader}
 use Rattle.nv_room.specs.declared.room.Lead.{Lead}

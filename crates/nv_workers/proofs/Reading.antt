@@ -4,9 +4,9 @@ use Rattle.std.proofs.lemmas.List.{map-append}
 use Rattle.std.specs.Prelude.{is_some, Contains}
 use Rattle.nv_calls.specs.Calls.{Entry}
 use Rattle.nv_calls.specs.Logs.{InRange, IsLawful, IsNew, MayFollow, child_of, live_after}
-use Rattle.nv_served.specs.Learning.{FromAny}
-use Rattle.nv_served.proofs.LearningLaws.{as_told, legal_told, legal_front}
-use Rattle.nv_served.specs.declared.kernel.SyscallKernel.{Ghosts}
+use Rattle.nv_calls.specs.Learning.{FromAny}
+use Rattle.nv_calls.proofs.LearningLaws.{as_told, legal_told, legal_front}
+use Rattle.nv_calls.specs.declared.kernel.SyscallKernel.{Ghosts}
 use Rattle.nv_words.specs.Spelling.{spell, IsWhole}
 use Rattle.nv_words.proofs.SpellLaws.{spell_one, spell_whole}
 use Rattle.nv_room.specs.declared.view.View.{View}

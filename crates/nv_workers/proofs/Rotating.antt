@@ -1,6 +1,6 @@
 -- Rounds of turns.
 use Rattle.std.proofs.Common.{◌⊎◌, inl, inr, ◌∙◌, refl, ℕ, List, [], ◌∷◌}
-use Rattle.nv_served.specs.declared.kernel.SyscallKernel.{Ghosts}
+use Rattle.nv_calls.specs.declared.kernel.SyscallKernel.{Ghosts}
 use Rattle.nv_room.specs.declared.room.Room.{Room}
 use Rattle.nv_replay.specs.Follow.{Judge}
 use Rattle.nv_workers.specs.declared.worker.Turn.{Turn}

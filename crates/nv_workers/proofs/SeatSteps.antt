@@ -1,6 +1,6 @@
 -- Steps of a worker's seat.
 use Rattle.std.proofs.Common.{◌≡◌, ℕ, Bool, Option, refl, subst, inl, inr}
-use Rattle.nv_served.specs.declared.kernel.SyscallKernel.{Ghosts}
+use Rattle.nv_calls.specs.declared.kernel.SyscallKernel.{Ghosts}
 use Rattle.nv_room.specs.declared.view.View.{View}
 use Rattle.nv_room.specs.declared.room.Reader.{Reader}
 use Rattle.nv_room.specs.declared.room.Lead.{Lead}

@@ -6,9 +6,9 @@ use mathlib.Core.Logic.{dite}
 use native.Mathlib.Decide.{dec_le}
 use Rattle.nv_calls.specs.Calls.{Entry}
 use Rattle.nv_calls.specs.Logs.{IsLawful, IsLegal, Start, served}
-use Rattle.nv_served.specs.Learning.{FromAny}
-use Rattle.nv_served.proofs.LearningLaws.{as_told, legal_told, legal_front, legal_last}
-use Rattle.nv_served.specs.declared.kernel.SyscallKernel.{Ghosts}
+use Rattle.nv_calls.specs.Learning.{FromAny}
+use Rattle.nv_calls.proofs.LearningLaws.{as_told, legal_told, legal_front, legal_last}
+use Rattle.nv_calls.specs.declared.kernel.SyscallKernel.{Ghosts}
 use Rattle.nv_words.specs.Spelling.{spell}
 use Rattle.nv_room.specs.declared.view.View.{View}
 use Rattle.nv_room.specs.declared.view.Span.{Span}

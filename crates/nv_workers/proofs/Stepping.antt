@@ -1,6 +1,6 @@
 -- What a turn comes to, by seat.
 use Rattle.std.proofs.Common.{◌≡◌, inl, ℕ, Bool, false, List, Option}
-use Rattle.nv_served.specs.declared.kernel.SyscallKernel.{Ghosts}
+use Rattle.nv_calls.specs.declared.kernel.SyscallKernel.{Ghosts}
 use Rattle.nv_room.specs.declared.room.Room.{Room}
 use Rattle.nv_room.specs.declared.room.Reader.{Reader}
 use Rattle.nv_room.specs.declared.room.Lead.{Lead}

@@ -1,6 +1,6 @@
 -- Workers that have ended.
 use Rattle.std.specs.Prelude.{◌≡◌, ℕ, ◌+◌, List, [], ◌∷◌, length}
-use Rattle.nv_served.specs.declared.kernel.SyscallKernel.{Ghosts}
+use Rattle.nv_calls.specs.declared.kernel.SyscallKernel.{Ghosts}
 use Rattle.nv_room.specs.declared.room.Room.{Room}
 use Rattle.nv_room.specs.declared.room.Left.{Left}
 use Rattle.nv_room.specs.Seats.{IsLeftOf, left_view, version_of_left, versions_of, hands_of, on_demand_of}

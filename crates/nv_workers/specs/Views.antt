@@ -1,6 +1,6 @@
 -- The view of a worker's seat, and how it goes on.
 use Rattle.std.specs.Prelude.{◌≡◌, ℕ}
-use Rattle.nv_served.specs.declared.kernel.SyscallKernel.{Ghosts}
+use Rattle.nv_calls.specs.declared.kernel.SyscallKernel.{Ghosts}
 use Rattle.nv_room.specs.declared.view.View.{View}
 use Rattle.nv_room.specs.Kinds.{Stepped}
 use Rattle.nv_room.specs.Seats.{view, lead_view, left_view}

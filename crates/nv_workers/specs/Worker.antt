@@ -1,6 +1,6 @@
 -- What a worker keeps, whatever its seat is.
 use Rattle.std.specs.Prelude.{◌≡◌, ◌<◌, ◌⊎◌, ℕ, false, List, length, None}
-use Rattle.nv_served.specs.declared.kernel.SyscallKernel.{Ghosts}
+use Rattle.nv_calls.specs.declared.kernel.SyscallKernel.{Ghosts}
 use Rattle.nv_room.specs.declared.room.Room.{Room}
 use Rattle.nv_room.specs.Seats.{IsLeftOf, view, lead_view, left_view, version_of_reader, version_of_lead, version_of_left, hands_of, on_demand_of}
 use Rattle.nv_threads.specs.Threads.{Proc}

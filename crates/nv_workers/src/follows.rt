@@ -12,13 +12,12 @@ ghost use Rattle.nv_workers.specs.inner.Spares.{HasSpared, MayBeAhead};
 
 use crate::gate::{Gate, VersionNumber};
 use crate::terms::Terms;
-use nv_calls::Event;
+use nv_calls::{Event, SyscallKernel};
 use nv_lamport::{Polled, poll_merged};
 use nv_promotion::{Lower, lower_gone};
 use nv_replay::{Followed, Version};
 use nv_ring::advance;
 use nv_room::{Reader, Room};
-use nv_served::SyscallKernel;
 use nv_words::EventBuf;
 
 /// What comes next for a station.

@@ -14,10 +14,10 @@ ghost use Rattle.nv_workers.specs.inner.Leads.{AfterLead, HasPublished, IsLate, 
 use crate::follows::Next;
 use crate::gate::{Gate, VersionNumber};
 use crate::terms::Terms;
+use nv_calls::SyscallKernel;
 use nv_replay::{Led, Version};
 use nv_ring::{Placed, place, publish};
 use nv_room::{Lead, Room};
-use nv_served::SyscallKernel;
 
 /// Comes to a call, unless one is asked, and serves it where its event has a place.
 pub(crate) fn lead_turn<K: SyscallKernel, G: Gate>(

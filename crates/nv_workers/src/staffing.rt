@@ -6,9 +6,9 @@ ghost use Rattle.nv_workers.specs.Staffing.{AreNewSeats, HasMemoryFor, StaffsAne
 
 use crate::ran::lists_for;
 use crate::worker::Worker;
+use nv_calls::SyscallKernel;
 use nv_replay::Version;
 use nv_room::{Lead, Left, Reader};
-use nv_served::SyscallKernel;
 use nv_words::EventBuf;
 use std::alloc::{AllocError, Global};
 

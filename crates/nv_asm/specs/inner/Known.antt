@@ -1,7 +1,7 @@
 -- What the first pass tells.
 use Rattle.std.specs.Prelude.{ℕ, List, ◌<◌, ◌^◌, Option, IfSome}
 use Rattle.std.specs.Option.{option_or}
-use Rattle.nv_text.specs.Names.{defined}
+use Rattle.nv_bytes.specs.Names.{defined}
 use Rattle.nv_asm.specs.declared.place.Label.{Label}
 use Rattle.nv_asm.specs.Assembled.{Whole}
 

@@ -1,6 +1,6 @@
 -- The code's programs as the definitions see them.
 use Rattle.std.specs.Prelude.{◌≡◌, ℕ, ◌+◌, ◌-◌, ◌%◌, ◌≤◌, List, ◌++◌, length, Option, None, option_map, Ok}
-use Rattle.nv_text.specs.Lines.{line_number}
+use Rattle.nv_bytes.specs.Lines.{line_number}
 use Rattle.nv_asm.specs.declared.fault.AsmCause.{AsmCause}
 use Rattle.nv_asm.specs.declared.fault.AsmFault.{AsmFault}
 use Rattle.nv_asm.specs.declared.fault.AsmFault.TheVariants as fault

@@ -1,6 +1,6 @@
 -- A live run, step by step.
 use Rattle.std.specs.Prelude.{◌≡◌, ◌≤◌, ◌⊎◌, ℕ, Bool, false, List, [], Option, IsTrue, length, map}
-use Rattle.nv_arrivals.specs.Arrivals.{Arrival}
+use Rattle.nv_script.specs.Arrivals.{Arrival}
 use Rattle.nv_arriving.specs.Arriving.{start_of_arrivals}
 use Rattle.nv_arriving.specs.Kernel.{Coming, begun_in}
 use Rattle.nv_bpf.specs.declared.op.Op.{Op}

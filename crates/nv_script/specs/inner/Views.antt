@@ -3,7 +3,7 @@ use Rattle.std.specs.Prelude.{◌++◌, Option, Result, Ok, Err, option_map, cod
 use Rattle.nv_script.specs.declared.entry.Entry.{Entry}
 use Rattle.nv_script.specs.declared.entry.Entry.TheVariants as code
 use Rattle.nv_script.specs.declared.fault.ScriptCause.{ScriptCause}
-use Rattle.nv_arrivals.specs.Views as came
+use Rattle.nv_script.specs.ArrivalViews as came
 use Rattle.nv_script.specs.Entry as rule
 use Rattle.nv_script.specs.Scripts.{Draft}
 

@@ -1,12 +1,12 @@
 use Rattle.std.proofs.Common.{◌≡◌, ◌∙◌, ap, sym, refl, Bool, false, [], ◌∷◌, ◌++◌, List, length, map, append-nil, Ok}
 use Rattle.nv_kernel.proofs.Keeping.{map_more}
-use Rattle.nv_arrivals.specs.Arrivals.{Arrival}
-use Rattle.nv_arrivals.specs.Doings.{Takes}
+use Rattle.nv_script.specs.Arrivals.{Arrival}
+use Rattle.nv_script.specs.Doings.{Takes}
 use Rattle.nv_calls.specs.Calls.{request}
 use Rattle.nv_arriving.specs.Arrivals.{ends, any_ends, until}
 use Rattle.nv_arriving.specs.Views.{standing_of}
 use Rattle.nv_arriving.specs.Kernel.{after}
-use Rattle.nv_arrivals.specs.Views.{view as arrival_of, taking}
+use Rattle.nv_script.specs.ArrivalViews.{view as arrival_of, taking}
 use Rattle.nv_arriving.proofs.Taken.{drop_all, grew_same, grew_still, grew_more, after_more, any_last, takes_more, until_all_of, until_last, any_none_last}
 use Rattle.nv_arriving.proofs.Telling.{adds_none, adds_both, adds_is}
 use Rattle.nv_arriving.proofs.arrivals.hear.Given.{Over}

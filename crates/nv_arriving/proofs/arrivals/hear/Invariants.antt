@@ -1,6 +1,6 @@
 use Rattle.std.proofs.Common.{◌≡◌, false, map}
-use Rattle.nv_arrivals.specs.Doings.{Takes}
-use Rattle.nv_arrivals.specs.Views.{view as arrival_of}
+use Rattle.nv_script.specs.Doings.{Takes}
+use Rattle.nv_script.specs.ArrivalViews.{view as arrival_of}
 use Rattle.nv_calls.specs.Calls.{request}
 use Rattle.nv_arriving.specs.Arrivals.{ends, any_ends}
 use Rattle.nv_arriving.specs.Views.{standing_of}

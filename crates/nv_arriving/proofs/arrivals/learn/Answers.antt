@@ -1,13 +1,13 @@
 use Rattle.std.proofs.Common.{◌≡◌, ◌∙◌, ◌≤◌, ap, sym, false, not, List, length, map, drop, arith, length-drop}
 use Rattle.std.proofs.lemmas.List.{length-map}
-use Rattle.nv_arrivals.specs.Arrivals.{Arrival}
+use Rattle.nv_script.specs.Arrivals.{Arrival}
 use Rattle.nv_calls.specs.Calls.{Request, request}
 use Rattle.nv_arriving.specs.declared.waiting.Intake.{Intake}
 use Rattle.nv_arriving.specs.Arrivals.{ends, any_ends, until}
 use Rattle.nv_arriving.specs.Arriving.{Standing}
 use Rattle.nv_arriving.specs.Kernel.{intake_of}
 use Rattle.nv_arriving.specs.Views.{standing_of}
-use Rattle.nv_arrivals.specs.Views.{view as arrival_of}
+use Rattle.nv_script.specs.ArrivalViews.{view as arrival_of}
 use Rattle.nv_arriving.proofs.Kept.{intake_is, intake_inside}
 use Rattle.nv_arriving.proofs.Steps.{drop_map}
 use Rattle.nv_arriving.proofs.Taken.{heard_any, heard_until, not_back, is_back, twice_not}

@@ -6,7 +6,7 @@ use Rattle.nv_calls.specs.Logs.{calls_of}
 use Rattle.nv_sockets.specs.Serving.{link_written}
 use Rattle.nv_sockets.specs.Views.{link_of}
 use Rattle.nv_sockets.proofs.Lines.{written_is}
-use Rattle.nv_arrivals.specs.Arrivals.{Arrival}
+use Rattle.nv_script.specs.Arrivals.{Arrival}
 use Rattle.nv_arriving.specs.Arriving.{Stage, serve_next, first_stage}
 use Rattle.nv_arriving.specs.Scripted.{stage_from}
 use Rattle.nv_arriving.specs.declared.scripted.Listed.{Listed}

@@ -3,7 +3,7 @@ use denote.Param.Send.{param_send, arg_send}
 use Rattle.std.proofs.Common.{◌∙◌, ap, List}
 use Rattle.nv_calls.specs.Answer.{state_after}
 use Rattle.nv_calls.specs.Logs.{calls_of}
-use Rattle.nv_arrivals.specs.Arrivals.{Arrival}
+use Rattle.nv_script.specs.Arrivals.{Arrival}
 use Rattle.nv_arriving.specs.Arriving.{Stage, serve_next, first_stage}
 use Rattle.nv_arriving.specs.declared.scripted.Listed.{Listed}
 use Rattle.nv_arriving.proofs.Sending.{listed_send}

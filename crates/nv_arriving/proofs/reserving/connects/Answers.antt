@@ -1,6 +1,6 @@
 use Rattle.std.proofs.Common.{◌∙◌, ap, List, map, take, arith}
-use Rattle.nv_arrivals.specs.Arrivals.{Arrival}
-use Rattle.nv_arrivals.specs.Views.{view as arrival_of}
+use Rattle.nv_script.specs.Arrivals.{Arrival}
+use Rattle.nv_script.specs.ArrivalViews.{view as arrival_of}
 use Rattle.nv_arriving.specs.Reserved.{connects}
 use Rattle.nv_arriving.proofs.Rooms.{connects_last}
 use Rattle.nv_arriving.proofs.Steps.{step, whole}

@@ -1,8 +1,8 @@
 use Rattle.std.proofs.Common.{◌≡◌, ap, subst, ℕ, ◌+◌, ◌∷◌, [], List, arith}
 use Rattle.std.proofs.lemmas.Result.{on_ok_weaker}
 use Rattle.nv_sockets.specs.Coming.{came_over, HasInput}
-use Rattle.nv_arrivals.specs.declared.arrival.Arrival.{Arrival}
-use Rattle.nv_arrivals.specs.Views.{view as arrival_of}
+use Rattle.nv_script.specs.declared.arrival.Arrival.{Arrival}
+use Rattle.nv_script.specs.ArrivalViews.{view as arrival_of}
 use Rattle.nv_arriving.specs.Reserved.{data_of}
 use Rattle.nv_arriving.proofs.reserving.promise.Goals as goal
 

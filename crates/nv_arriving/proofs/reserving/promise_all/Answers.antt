@@ -2,8 +2,8 @@ use Rattle.std.proofs.Common.{◌≡◌, ◌∙◌, ap, sym, subst, refl, ℕ, s
 use Rattle.std.specs.Prelude.{slice_index}
 use Rattle.nv_sockets.specs.Coming.{HasInput}
 use Rattle.nv_sockets.specs.Reserved.{Buffered}
-use Rattle.nv_arrivals.specs.Arrivals.{Arrival}
-use Rattle.nv_arrivals.specs.Views.{view as arrival_of}
+use Rattle.nv_script.specs.Arrivals.{Arrival}
+use Rattle.nv_script.specs.ArrivalViews.{view as arrival_of}
 use Rattle.nv_arriving.specs.Reserved.{data_of}
 use Rattle.nv_arriving.proofs.Rooms.{data_last}
 use Rattle.nv_arriving.proofs.Steps.{step, whole}

@@ -1,7 +1,7 @@
 use Rattle.std.proofs.Common.{◌≡◌, ◌<◌, ◌≤◌, ◌+◌, ◌-◌, ℕ, suc, length, map, take}
 use Rattle.std.specs.Prelude.{slice_index}
 use Rattle.nv_sockets.specs.Coming.{HasInput}
-use Rattle.nv_arrivals.specs.Views.{view as arrival_of}
+use Rattle.nv_script.specs.ArrivalViews.{view as arrival_of}
 use Rattle.nv_arriving.specs.Reserved.{data_of}
 use Rattle.nv_arriving.proofs.reserving.promise_all.Given as goal
 

@@ -1,6 +1,6 @@
 use Rattle.std.proofs.Common.{◌++◌, length, Some, ap, subst, sym, ◌∙◌, arith, append-nil, length-append}
-use Rattle.nv_text.specs.Lines.{lines, LinesLeft}
-use Rattle.nv_text.specs.Names.{first_fault, or_later}
+use Rattle.nv_bytes.specs.Lines.{lines, LinesLeft}
+use Rattle.nv_bytes.specs.Names.{first_fault, or_later}
 use Rattle.nv_asm.specs.declared.place.Reached.{Reached}
 use Rattle.nv_asm.specs.declared.place.Section.TheVariants as section
 use Rattle.nv_asm.specs.Places.{Placed, placed, placed_line, after, nothing_reached, ended}

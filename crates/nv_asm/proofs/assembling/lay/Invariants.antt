@@ -1,6 +1,6 @@
 use Rattle.std.proofs.Common.{◌≡◌, ◌+◌, ◌++◌, ◌≤◌, length}
-use Rattle.nv_text.specs.Lines.{lines}
-use Rattle.nv_text.specs.Names.{first_fault}
+use Rattle.nv_bytes.specs.Lines.{lines}
+use Rattle.nv_bytes.specs.Names.{first_fault}
 use Rattle.nv_asm.specs.declared.place.Section.TheVariants as section
 use Rattle.nv_asm.specs.Places.{placed, nothing_reached, ended}
 use Rattle.nv_asm.specs.Assembled.{section_bytes, entry_address, text_base}

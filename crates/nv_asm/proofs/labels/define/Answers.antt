@@ -1,5 +1,5 @@
 use Rattle.std.proofs.Common.{ℕ, List, Bor, Option, Some, option_map, ap, sym, ◌∙◌}
-use Rattle.nv_text.specs.Names.{defining}
+use Rattle.nv_bytes.specs.Names.{defining}
 use Rattle.nv_asm.specs.declared.place.Label.{Label}
 use Rattle.nv_asm.specs.declared.place.Place.{Place}
 use Rattle.nv_asm.specs.inner.Known.{defined_among}

@@ -1,5 +1,5 @@
 use Rattle.std.proofs.Common.{◌+◌, ◌^◌, ap, sym, ◌∙◌, arith}
-use Rattle.nv_text.specs.Lines.{lines, LinesLeft}
+use Rattle.nv_bytes.specs.Lines.{lines, LinesLeft}
 use Rattle.nv_asm.specs.declared.place.Reached.{Reached}
 use Rattle.nv_asm.specs.inner.Known.{defined_among}
 use Rattle.nv_asm.specs.Places.{Placed, placed, placed_line, after, nothing_reached, ended}

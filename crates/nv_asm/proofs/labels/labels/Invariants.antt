@@ -1,6 +1,6 @@
 use Rattle.std.proofs.Common.{◌≡◌, ℕ, ◌+◌, ◌^◌, ◌≤◌, List, map}
-use Rattle.nv_text.specs.Lines.{lines}
-use Rattle.nv_text.specs.Names.{defined, definitions}
+use Rattle.nv_bytes.specs.Lines.{lines}
+use Rattle.nv_bytes.specs.Names.{defined, definitions}
 use Rattle.nv_asm.specs.Places.{placed, ended, nothing_reached, marked}
 use Rattle.nv_asm.specs.inner.Known.{defined_among, IsBelow}
 use Rattle.nv_asm.proofs.Passing.{weight}

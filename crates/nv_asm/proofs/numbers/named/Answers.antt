@@ -1,5 +1,5 @@
 use Rattle.std.proofs.Common.{refl, nat_lt}
-use Rattle.nv_text.specs.Names.{defined}
+use Rattle.nv_bytes.specs.Names.{defined}
 use Rattle.nv_asm.specs.Numbers.{registers}
 use Rattle.nv_asm.proofs.Finding.{defined-all, below-32}
 use Rattle.nv_asm.proofs.numbers.named.Goals as goal

@@ -1,5 +1,5 @@
 use Rattle.std.proofs.Common.{length, ap, arith}
-use Rattle.nv_text.specs.Lines.{Parts}
+use Rattle.nv_bytes.specs.Lines.{Parts}
 use Rattle.nv_asm.proofs.Sizes.{line_parts-le}
 use Rattle.nv_asm.proofs.placed.placed_line.Goals as goal
 

@@ -1,6 +1,6 @@
 use Rattle.std.proofs.Common.{Ok, Err, ◌∙◌, sym, ap}
 use Rattle.std.proofs.lemmas.Result.{err_from_is_err_and}
-use Rattle.nv_text.specs.Lines.{LinesLeft}
+use Rattle.nv_bytes.specs.Lines.{LinesLeft}
 use Rattle.nv_bpf.proofs.OpTexts.{ops_of_text-none, ops_of_text-count}
 use Rattle.nv_bpf.proofs.reading.read_text.Goals as goal
 

@@ -1,7 +1,7 @@
 use Rattle.std.proofs.Common.{Err, sym, ap, ◌∙◌}
 use Rattle.std.proofs.lemmas.Result.{err_from_is_err_and}
-use Rattle.nv_text.specs.Lines.{lines}
-use Rattle.nv_text.specs.Names.{defined}
+use Rattle.nv_bytes.specs.Lines.{lines}
+use Rattle.nv_bytes.specs.Names.{defined}
 use Rattle.nv_bpf_asm.specs.Assembled.{assembled, filter_with, of_filter, labels}
 use Rattle.nv_bpf_asm.proofs.Gathering.{ops_of-same}
 use Rattle.nv_bpf_asm.proofs.assembling.assemble.Goals as goal

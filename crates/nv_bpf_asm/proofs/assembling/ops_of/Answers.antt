@@ -1,6 +1,6 @@
 use Rattle.std.proofs.Common.{◌≡◌, ◌+◌, Ok, Err, sym, ap, ◌∙◌, arith, append-nil}
-use Rattle.nv_text.specs.Lines.{lines, Parts, LinesLeft}
-use Rattle.nv_text.specs.Names.{defined}
+use Rattle.nv_bytes.specs.Lines.{lines, Parts, LinesLeft}
+use Rattle.nv_bytes.specs.Names.{defined}
 use Rattle.nv_bpf_asm.specs.declared.fault.RuleFault.TheVariants as fault
 use Rattle.nv_bpf_asm.specs.Assembled.{ops_of, op_of_parts, count, word_count}
 use Rattle.nv_bpf_asm.proofs.Naming.{word_count-le}

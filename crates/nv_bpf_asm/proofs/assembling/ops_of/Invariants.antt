@@ -1,6 +1,6 @@
 use Rattle.std.proofs.Common.{◌≡◌, ◌≤◌}
-use Rattle.nv_text.specs.Lines.{lines}
-use Rattle.nv_text.specs.Names.{defined}
+use Rattle.nv_bytes.specs.Lines.{lines}
+use Rattle.nv_bytes.specs.Names.{defined}
 use Rattle.nv_bpf_asm.specs.Assembled.{ops_of}
 use Rattle.nv_bpf_asm.proofs.Gathering.{with_prefix}
 use Rattle.nv_bpf_asm.proofs.assembling.ops_of.Given as goal

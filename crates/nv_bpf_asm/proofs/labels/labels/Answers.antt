@@ -1,6 +1,6 @@
 use Rattle.std.proofs.Common.{◌≡◌, ℕ, ◌+◌, List, option_map, sym, ap, ◌∙◌, arith}
-use Rattle.nv_text.specs.Lines.{lines, Parts, LinesLeft}
-use Rattle.nv_text.specs.Names.{defining}
+use Rattle.nv_bytes.specs.Lines.{lines, Parts, LinesLeft}
+use Rattle.nv_bytes.specs.Names.{defining}
 use Rattle.nv_bpf_asm.specs.declared.label.Label.{Label}
 use Rattle.nv_bpf_asm.specs.Assembled.{labels, count, word_count}
 use Rattle.nv_bpf_asm.proofs.Naming.{found, found-defined, labels-line, labels-none, word_count-le, found-none, found-all}

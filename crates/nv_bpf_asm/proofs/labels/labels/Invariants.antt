@@ -1,6 +1,6 @@
 use Rattle.std.proofs.Common.{◌≡◌, ℕ, ◌≤◌, List}
-use Rattle.nv_text.specs.Lines.{lines}
-use Rattle.nv_text.specs.Names.{defined}
+use Rattle.nv_bytes.specs.Lines.{lines}
+use Rattle.nv_bytes.specs.Names.{defined}
 use Rattle.nv_bpf_asm.specs.Assembled.{labels}
 use Rattle.nv_bpf_asm.proofs.Naming.{found}
 use Rattle.nv_bpf_asm.proofs.labels.labels.Given as goal

@@ -1,6 +1,6 @@
 use Rattle.std.proofs.Common.{ap}
 use Rattle.nv_outside.proofs.Writing.{puts-is}
-use Rattle.nv_text.specs.Numbers.{hex_of}
+use Rattle.nv_bytes.specs.Numbers.{hex_of}
 use Rattle.nv_inspect.proofs.threads.put_word.Goals as goal
 
 pub returns : goal.returns

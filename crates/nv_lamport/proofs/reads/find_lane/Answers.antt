@@ -1,6 +1,6 @@
 use Rattle.std.proofs.Common.{arith, refl, sym, ap, subst, ◌∙◌, ◌≡◌, ◌<◌, ◌+◌, ℕ, length, true, false}
-use Rattle.nv_places.specs.Stamps.{Lives}
-use Rattle.nv_places.specs.Logs.{lanes_after}
+use Rattle.nv_room.specs.Stamps.{Lives}
+use Rattle.nv_room.specs.Logs.{lanes_after}
 use Rattle.nv_room.specs.Room.{Has}
 use Rattle.nv_room.specs.Kinds.{probes}
 use Rattle.nv_room.specs.Seats.{stations_of, view}

@@ -1,5 +1,5 @@
 use Rattle.std.proofs.Common.{◌≡◌, ℕ, ◌<◌, length}
-use Rattle.nv_places.specs.Stamps.{Lives}
+use Rattle.nv_room.specs.Stamps.{Lives}
 use Rattle.nv_room.specs.Room.{Has}
 use Rattle.nv_room.specs.Steps.{IsOpen}
 use Rattle.nv_room.specs.Kinds.{Stepped}

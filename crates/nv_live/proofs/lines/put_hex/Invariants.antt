@@ -1,5 +1,5 @@
 use Rattle.std.proofs.Common.{◌≡◌, ◌+◌, ◌*◌, ◌++◌, length, take}
-use Rattle.nv_text.specs.Numbers.{hex_of}
+use Rattle.nv_bytes.specs.Numbers.{hex_of}
 use Rattle.nv_live.proofs.lines.put_hex.Given as goal
 
 -- the bytes so far are added

@@ -1,5 +1,5 @@
 use Rattle.std.proofs.Common.{◌≡◌, ◌++◌, ◌∙◌, ap, codes, append_assoc}
-use Rattle.nv_text.specs.Numbers.{hex_of}
+use Rattle.nv_bytes.specs.Numbers.{hex_of}
 use Rattle.nv_live.specs.Lines.{line_with}
 use Rattle.nv_live.proofs.Noting.{writes-is}
 use Rattle.nv_live.proofs.lines.write_line.Goals as goal

@@ -1,6 +1,6 @@
 use Rattle.std.proofs.Common.{◌++◌}
 use Rattle.nv_outside.proofs.Writing.{puts-then, puts-failed}
-use Rattle.nv_text.specs.Numbers.{hex_of}
+use Rattle.nv_bytes.specs.Numbers.{hex_of}
 use Rattle.nv_report.proofs.events.put_bytes.Goals as goal
 
 pub returns-in_err-put_all : goal.returns-in_err-put_all

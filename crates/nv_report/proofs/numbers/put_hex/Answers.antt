@@ -1,5 +1,5 @@
 use Rattle.nv_outside.proofs.Writing.{puts-is, puts-stopped}
-use Rattle.nv_text.specs.Numbers.{hex_pair_of}
+use Rattle.nv_bytes.specs.Numbers.{hex_pair_of}
 use Rattle.nv_report.proofs.numbers.put_hex.Goals as goal
 
 pub returns-in_err-put_all : goal.returns-in_err-put_all

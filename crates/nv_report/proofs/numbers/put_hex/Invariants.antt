@@ -1,7 +1,7 @@
 use Rattle.std.proofs.Common.{take, Ok}
 use Rattle.std.specs.List.{flat_map}
 use Rattle.nv_outside.specs.Sink.{Puts}
-use Rattle.nv_text.specs.Numbers.{hex_pair_of}
+use Rattle.nv_bytes.specs.Numbers.{hex_pair_of}
 use Rattle.nv_report.proofs.numbers.put_hex.Given as goal
 
 abbrev pub invariant-loop-byte : goal.invariant-loop-byte

@@ -1,7 +1,7 @@
 use Rattle.std.proofs.Common.{ap}
 use Rattle.std.specs.Int.{w32, to_be_bytes}
 use Rattle.nv_outside.proofs.Writing.{puts-is, puts-then, puts-failed}
-use Rattle.nv_text.specs.Numbers.{hex_of}
+use Rattle.nv_bytes.specs.Numbers.{hex_of}
 use Rattle.nv_report.proofs.versions.put_fault.Goals as goal
 
 pub returns : goal.returns

@@ -4,7 +4,7 @@ use Rattle.std.proofs.lemmas.List.{take_more, take_all}
 use mathlib.Core.List.{map-append}
 use Rattle.nv_calls.specs.Calls.{Entry, entry}
 use Rattle.nv_calls.specs.Logs.{live_after, child_of}
-use Rattle.nv_lanes.specs.Lanes.{is_of}
+use Rattle.nv_room.specs.Lanes.{is_of}
 use Rattle.nv_calls.specs.declared.calls.Event.{Event}
 use Rattle.nv_room_harness.specs.Going.{GoesOn}
 use Rattle.nv_room_harness.proofs.Living.{lives_on, child_lives, either, made_of}

@@ -1,5 +1,5 @@
 use Rattle.std.proofs.Common.{Ok, Err, inr, sym, ap, ◌∙◌}
-use Rattle.nv_text.specs.Lines.{line_number}
+use Rattle.nv_bytes.specs.Lines.{line_number}
 use Rattle.nv_script.specs.declared.fault.ScriptFault.TheVariants as fault
 use Rattle.nv_script.specs.Scripts.{drafted}
 use Rattle.nv_script.specs.inner.Views.{became}

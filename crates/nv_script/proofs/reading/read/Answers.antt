@@ -1,6 +1,6 @@
 use Rattle.std.proofs.Common.{None, Some, Ok, inl, inr, sym, ap, ◌+◌, ◌∙◌}
 use Rattle.std.proofs.lemmas.Result.{err_from_is_err_and}
-use Rattle.nv_text.specs.Lines.{LinesLeft}
+use Rattle.nv_bytes.specs.Lines.{LinesLeft}
 use Rattle.nv_script.specs.Scripts.{blank, drafted, finished_result}
 use Rattle.nv_script.proofs.Sound.{script_of-keeps}
 use Rattle.nv_script.proofs.Drafting.{script_of-none, script_of-line}

@@ -1,7 +1,7 @@
 use Rattle.std.proofs.Common.{◌∙◌, refl, subst, Bool, List}
 use Rattle.nv_calls.specs.Calls.{Entry}
 use Rattle.nv_calls.specs.Logs.{Start}
-use Rattle.nv_served.proofs.LearningLaws.{as_told, legal_told}
+use Rattle.nv_calls.proofs.LearningLaws.{as_told, legal_told}
 use Rattle.nv_threads.specs.Threads.{threads}
 use Rattle.nv_threads.proofs.ThreadLaws.{thread_laws}
 use Rattle.nv_sequence.proofs.Growing.{legal_before, grows_none, grows_on}

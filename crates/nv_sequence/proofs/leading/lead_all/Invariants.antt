@@ -1,6 +1,6 @@
 use Rattle.std.proofs.Common.{◌≡◌}
 use Rattle.nv_calls.specs.Logs.{IsLawful}
-use Rattle.nv_served.specs.Learning.{FromAny}
+use Rattle.nv_calls.specs.Learning.{FromAny}
 use Rattle.nv_threads.specs.Threads.{threads}
 use Rattle.nv_threads.proofs.ThreadLaws.{thread_laws}
 use Rattle.nv_replay.specs.Version.{leader_of}

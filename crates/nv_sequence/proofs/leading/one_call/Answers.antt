@@ -1,7 +1,7 @@
 use Rattle.std.proofs.Common.{◌≡◌, ◌∙◌, sym, ap, subst, List, [], ◌∷◌, ◌++◌, arith, append-nil}
 use Rattle.nv_calls.specs.Calls.{Request, Entry}
 use Rattle.nv_calls.specs.Logs.{IsLawful, IsLegal, served}
-use Rattle.nv_served.proofs.LearningLaws.{legal_last}
+use Rattle.nv_calls.proofs.LearningLaws.{legal_last}
 use Rattle.nv_replay.specs.Version.{became_event}
 use Rattle.nv_threads.specs.Threads.{threads}
 use Rattle.nv_threads.proofs.ThreadLaws.{thread_laws}

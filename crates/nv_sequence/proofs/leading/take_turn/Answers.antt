@@ -1,6 +1,6 @@
 use Rattle.std.proofs.Common.{◌∙◌, ap, sym, subst}
 use Rattle.nv_calls.specs.Logs.{IsLawful}
-use Rattle.nv_served.proofs.LearningLaws.{as_told, legal_told}
+use Rattle.nv_calls.proofs.LearningLaws.{as_told, legal_told}
 use Rattle.nv_threads.specs.Threads.{Proc}
 use Rattle.nv_replay.specs.Version.{Running}
 use Rattle.nv_sequence.proofs.leading.take_turn.Goals as goal

@@ -2,7 +2,7 @@ use Rattle.std.proofs.Common.{option_map, ◌∙◌, sym, ap, subst, refl, ◌++
 use Rattle.std.specs.Prelude.{if◌then◌else◌}
 use Rattle.nv_calls.specs.Logs.{Start, IsLawful}
 use Rattle.nv_calls.proofs.LogLaws.{lawful_none}
-use Rattle.nv_served.proofs.LearningLaws.{as_told, legal_told}
+use Rattle.nv_calls.proofs.LearningLaws.{as_told, legal_told}
 use Rattle.nv_threads.specs.Threads.{threads}
 use Rattle.nv_threads.proofs.ThreadLaws.{thread_laws}
 use Rattle.nv_replay.specs.Follow.{judge_of}

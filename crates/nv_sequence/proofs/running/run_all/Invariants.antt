@@ -1,7 +1,7 @@
 use Rattle.std.proofs.Common.{option_map, ◌≡◌, ◌+◌, length, map}
 use Rattle.std.specs.Prelude.{if◌then◌else◌}
 use Rattle.nv_calls.specs.Logs.{IsLawful}
-use Rattle.nv_served.specs.Learning.{FromAny}
+use Rattle.nv_calls.specs.Learning.{FromAny}
 use Rattle.nv_threads.specs.Threads.{threads}
 use Rattle.nv_threads.proofs.ThreadLaws.{thread_laws}
 use Rattle.nv_replay.specs.Follow.{judge_of}

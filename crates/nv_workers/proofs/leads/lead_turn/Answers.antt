@@ -1,6 +1,6 @@
 use Rattle.std.proofs.Common.{ap, arith}
 use Rattle.nv_replay.specs.Sequence.{is_going}
-use Rattle.nv_served.proofs.LearningLaws.{as_told, legal_told}
+use Rattle.nv_calls.proofs.LearningLaws.{as_told, legal_told}
 use Rattle.nv_room.specs.Seats.{kernel_of, lead_view, stations_of}
 use Rattle.nv_workers.proofs.Serving.{with_asked, drops_lead, asks_lead}
 use Rattle.nv_threads.specs.Threads.{threads}

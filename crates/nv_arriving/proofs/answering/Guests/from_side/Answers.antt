@@ -1,8 +1,8 @@
 use Rattle.std.proofs.Common.{◌≡◌, sym, ap, subst, List, [], map}
 use Rattle.nv_script.specs.Scripts.{Setup}
 use Rattle.nv_script.specs.Views.{setup_of}
-use Rattle.nv_arrivals.specs.Arrivals.{Arrival}
-use Rattle.nv_arrivals.specs.Views.{view as arrival_of}
+use Rattle.nv_script.specs.Arrivals.{Arrival}
+use Rattle.nv_script.specs.ArrivalViews.{view as arrival_of}
 use Rattle.nv_arriving.specs.Telling.{Tells}
 use Rattle.nv_arriving.proofs.Standings.{stands_first}
 use Rattle.nv_arriving.proofs.Told.{told_first}

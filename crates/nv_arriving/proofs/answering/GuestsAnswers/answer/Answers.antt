@@ -4,10 +4,10 @@ use Rattle.nv_calls.specs.Answer.{Answer}
 use Rattle.nv_calls.specs.Calls.{Request, request}
 use Rattle.nv_calls.specs.Numbers.{syscall_of}
 use Rattle.nv_kernel.specs.Answering.{IsAnswer}
-use Rattle.nv_arrivals.specs.declared.arrival.Arrival as code
-use Rattle.nv_arrivals.specs.Arrivals.{Arrival}
-use Rattle.nv_arrivals.specs.Doings.{Says}
-use Rattle.nv_arrivals.specs.Views.{view as arrival_of}
+use Rattle.nv_script.specs.declared.arrival.Arrival as code
+use Rattle.nv_script.specs.Arrivals.{Arrival}
+use Rattle.nv_script.specs.Doings.{Says}
+use Rattle.nv_script.specs.ArrivalViews.{view as arrival_of}
 use Rattle.nv_arriving.specs.Arrivals.{taken_for, in_vain}
 use Rattle.nv_arriving.specs.Arriving.{Stage, wait_of, taken, ready_for, arrive_all, unless_vain, serve_by, answer_next, serve_next, start_of_arrivals, Standing}
 use Rattle.nv_arriving.specs.Arrivals.{ends}

@@ -1,6 +1,6 @@
 use Rattle.std.proofs.Common.{sym, subst, drop, map, List}
-use Rattle.nv_arrivals.specs.Arrivals.{Arrival}
-use Rattle.nv_arrivals.specs.Views.{view as arrival_of}
+use Rattle.nv_script.specs.Arrivals.{Arrival}
+use Rattle.nv_script.specs.ArrivalViews.{view as arrival_of}
 use Rattle.nv_arriving.specs.Kernel.{Coming}
 use Rattle.nv_arriving.specs.Standing.{StandsAt}
 use Rattle.nv_arriving.specs.Views.{standing_of, room_of}

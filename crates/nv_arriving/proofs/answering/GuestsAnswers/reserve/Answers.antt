@@ -3,9 +3,9 @@ use Rattle.std.proofs.lemmas.List.{length-map}
 use Rattle.nv_calls.specs.Calls.{Entry, Request, request}
 use Rattle.nv_calls.proofs.ShapeLaws.{shaped-few}
 use Rattle.nv_script.specs.Scripts.{Setup}
-use Rattle.nv_served.specs.Learning.{GoesOn}
-use Rattle.nv_arrivals.specs.Arrivals.{Arrival}
-use Rattle.nv_arrivals.specs.Views.{view as arrival_of}
+use Rattle.nv_calls.specs.Learning.{GoesOn}
+use Rattle.nv_script.specs.Arrivals.{Arrival}
+use Rattle.nv_script.specs.ArrivalViews.{view as arrival_of}
 use Rattle.nv_arriving.specs.Arrivals.{in_vain}
 use Rattle.nv_arriving.specs.Arriving.{Standing, wait_of, taken, start_of_arrivals}
 use Rattle.nv_arriving.specs.declared.waiting.Intake.{Intake}

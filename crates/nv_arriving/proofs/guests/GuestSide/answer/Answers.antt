@@ -8,7 +8,7 @@ use Rattle.nv_sockets.specs.declared.host.Host.{Host}
 use Rattle.nv_arriving.specs.Arriving.{Standing, arrive_all, unless_vain, serve_by}
 use Rattle.nv_arriving.specs.Doings.{said}
 use Rattle.nv_arriving.specs.Said.{said_of}
-use Rattle.nv_arrivals.specs.Views.{view as arrival_of}
+use Rattle.nv_script.specs.ArrivalViews.{view as arrival_of}
 use Rattle.nv_arriving.specs.declared.guests.GuestSide.{GuestSide}
 use Rattle.nv_arriving.specs.Reserved.{IsKept}
 use Rattle.nv_arriving.specs.Views.{standing_of, room_of}

@@ -1,7 +1,7 @@
 use Rattle.std.proofs.Common.{[], ◌∷◌, ◌++◌, ℕ, true, sym, subst, List}
-use Rattle.nv_arrivals.specs.declared.arrival.Arrival.{Arrival}
-use Rattle.nv_arrivals.specs.Arrivals.{Data}
-use Rattle.nv_arrivals.specs.Views.{view as arrival_of}
+use Rattle.nv_script.specs.declared.arrival.Arrival.{Arrival}
+use Rattle.nv_script.specs.Arrivals.{Data}
+use Rattle.nv_script.specs.ArrivalViews.{view as arrival_of}
 use Rattle.nv_arriving.specs.Reserved.{HasRoom}
 use Rattle.nv_arriving.specs.Views.{room_of}
 use Rattle.nv_arriving.proofs.Rooms.{room_data, room_end, whole_changed}

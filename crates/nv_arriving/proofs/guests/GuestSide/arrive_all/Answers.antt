@@ -1,6 +1,6 @@
 use Rattle.std.proofs.Common.{◌∙◌, ap, sym, subst, refl, ◌+◌, List, map, take, drop, arith}
-use Rattle.nv_arrivals.specs.Arrivals.{Arrival}
-use Rattle.nv_arrivals.specs.Views.{view as arrival_of}
+use Rattle.nv_script.specs.Arrivals.{Arrival}
+use Rattle.nv_script.specs.ArrivalViews.{view as arrival_of}
 use Rattle.nv_arriving.specs.Arriving.{Standing, arrive, arrive_all}
 use Rattle.nv_arriving.specs.Reserved.{CanTakeIn}
 use Rattle.nv_arriving.specs.Views.{standing_of, room_of}

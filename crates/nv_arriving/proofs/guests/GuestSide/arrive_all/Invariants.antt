@@ -1,5 +1,5 @@
 use Rattle.std.proofs.Common.{◌≡◌, length, map, take, drop}
-use Rattle.nv_arrivals.specs.Views.{view as arrival_of}
+use Rattle.nv_script.specs.ArrivalViews.{view as arrival_of}
 use Rattle.nv_arriving.specs.Arriving.{arrive_all}
 use Rattle.nv_arriving.specs.Reserved.{CanTakeIn, IsKept, IsSameBut}
 use Rattle.nv_arriving.specs.Views.{standing_of, room_of}

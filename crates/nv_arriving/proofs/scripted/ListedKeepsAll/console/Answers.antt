@@ -1,6 +1,6 @@
 use Rattle.std.proofs.Common.{◌∙◌, ap, sym, List}
 use Rattle.nv_calls.specs.Logs.{output_of}
-use Rattle.nv_arrivals.specs.Arrivals.{Arrival}
+use Rattle.nv_script.specs.Arrivals.{Arrival}
 use Rattle.nv_arriving.specs.Arriving.{Stage, start_of_arrivals}
 use Rattle.nv_arriving.proofs.Staged.{output_is}
 use Rattle.nv_arriving.proofs.scripted.ListedKeepsAll.console.Goals as goal

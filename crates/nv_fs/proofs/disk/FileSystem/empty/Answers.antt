@@ -1,5 +1,5 @@
 use Rattle.std.proofs.Common.{ap, ◌<◌, length, arith}
-use Rattle.nv_blocks.specs.Contents.{Content}
+use Rattle.nv_fs.specs.Contents.{Content}
 use Rattle.nv_fs.proofs.Places.{content_changed}
 use Rattle.nv_fs.proofs.disk.FileSystem.empty.Goals as goal
 

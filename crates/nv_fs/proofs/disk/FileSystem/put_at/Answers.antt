@@ -1,5 +1,5 @@
 use Rattle.std.proofs.Common.{◌∙◌, ap, ◌<◌, length, arith}
-use Rattle.nv_blocks.specs.Contents.{with_bytes}
+use Rattle.nv_fs.specs.Contents.{with_bytes}
 use Rattle.nv_fs.proofs.Places.{file_is, content_changed}
 use Rattle.nv_fs.proofs.disk.FileSystem.put_at.Goals as goal
 

@@ -1,6 +1,6 @@
 use Rattle.std.proofs.Common.{◌∙◌, ap, ◌<◌, Bool, List, length, arith, subst}
 use Rattle.std.proofs.lemmas.Result.{on_ok_weaker}
-use Rattle.nv_blocks.specs.Contents.{HoldsRange}
+use Rattle.nv_fs.specs.Contents.{HoldsRange}
 use Rattle.nv_fs.proofs.Others.{beside}
 use Rattle.nv_fs.proofs.Places.{file_is, content_changed, content_same, held_is}
 use Rattle.nv_fs.proofs.disk.FileSystem.reserve_content.Goals as goal

@@ -2,7 +2,7 @@ use Rattle.std.proofs.Common.{◌≡◌, ◌∙◌, ◌<◌, ℕ, List, length, 
 use Rattle.nv_calls.specs.Calls.{entry, request}
 use Rattle.nv_calls.proofs.ShapeLaws.{shaped-few}
 use Rattle.nv_script.specs.Views.{setup_of}
-use Rattle.nv_served.proofs.LearningLaws.{goes_on_same}
+use Rattle.nv_calls.proofs.LearningLaws.{goes_on_same}
 use Rattle.nv_kernel.proofs.Logging.{logged_on}
 use Rattle.nv_kernel.proofs.kernel.KernelSyscallKernel.reserve.Goals as goal
 

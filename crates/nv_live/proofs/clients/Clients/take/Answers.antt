@@ -1,6 +1,6 @@
 use Rattle.std.proofs.Common.{◌≡◌, [], Bool, true, false, Ok, refl, sym, subst, rules}
 use Rattle.nv_live.specs.ComingLines.{ComesOn}
-use Rattle.nv_arrivals.specs.Views.{view, taking}
+use Rattle.nv_script.specs.ArrivalViews.{view, taking}
 use Rattle.nv_live.specs.Clients.{DoesLines}
 use Rattle.nv_live.specs.declared.clients.Clients.{Clients}
 use Rattle.nv_live.specs.Writer.{WritesOn}

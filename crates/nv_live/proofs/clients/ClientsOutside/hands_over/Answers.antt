@@ -1,5 +1,5 @@
 use Rattle.std.proofs.Common.{[], ◌∷◌, refl, ap, rules}
-use Rattle.nv_arrivals.specs.Doings.{Hands}
+use Rattle.nv_script.specs.Doings.{Hands}
 use Rattle.nv_live.specs.declared.clients.Clients.{Clients}
 use Rattle.nv_live.proofs.InTurn.{among-unasked}
 use Rattle.nv_live.proofs.Serving.{did-hand}

@@ -1,7 +1,7 @@
 use Rattle.std.proofs.Common.{◌≡◌, [], refl, sym, ap, subst, rules}
 use Rattle.nv_live.specs.declared.clients.Clients.{Clients}
 use Rattle.nv_live.specs.Clients.{DoesLinesInTurn}
-use Rattle.nv_arrivals.specs.Views.{taking}
+use Rattle.nv_script.specs.ArrivalViews.{taking}
 use Rattle.nv_live.proofs.InTurn.{among-turn, among-unasked, asked-among}
 use Rattle.nv_live.proofs.Serving.{did-then, did-read}
 use Rattle.nv_live.proofs.clients.ClientsOutside.next.Goals as goal

@@ -1,6 +1,6 @@
 use Rattle.std.proofs.Common.{[], ◌∷◌, refl}
-use Rattle.nv_arrivals.specs.Doings.{Says}
-use Rattle.nv_arrivals.specs.Views.{said_view}
+use Rattle.nv_script.specs.Doings.{Says}
+use Rattle.nv_script.specs.ArrivalViews.{said_view}
 use Rattle.nv_live.proofs.InTurn.{among-unasked}
 use Rattle.nv_live.proofs.Serving.{did-say}
 use Rattle.nv_live.proofs.Stopping.{stays-stopped}

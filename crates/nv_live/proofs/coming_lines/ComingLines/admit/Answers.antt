@@ -1,5 +1,5 @@
 use Rattle.std.proofs.Common.{[], ◌∷◌, ◌++◌, sym, subst, rules}
-use Rattle.nv_arrivals.specs.Views.{view}
+use Rattle.nv_script.specs.ArrivalViews.{view}
 use Rattle.nv_live.specs.Buffer.{held_in}
 use Rattle.nv_live.specs.ComingLines.{Come}
 use Rattle.nv_live.proofs.Coming.{come-taken}

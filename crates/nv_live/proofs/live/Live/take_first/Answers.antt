@@ -1,5 +1,5 @@
 use Rattle.std.proofs.Common.{◌≡◌, [], refl, sym, subst, rules}
-use Rattle.nv_arrivals.specs.Arrivals.{Input}
+use Rattle.nv_script.specs.Arrivals.{Input}
 use Rattle.nv_live.specs.declared.live.Live.{Live}
 use Rattle.nv_live.specs.Live.{DoesOn, took_first}
 use Rattle.nv_live.proofs.Doing.{did-take, did-read}

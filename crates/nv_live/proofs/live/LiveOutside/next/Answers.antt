@@ -1,6 +1,6 @@
 use Rattle.std.proofs.Common.{◌≡◌, [], ◌∷◌, refl, sym, ap, subst, rules}
-use Rattle.nv_arrivals.specs.Doings.{Takes}
-use Rattle.nv_arrivals.specs.Views.{view, taking}
+use Rattle.nv_script.specs.Doings.{Takes}
+use Rattle.nv_script.specs.ArrivalViews.{view, taking}
 use Rattle.nv_live.specs.declared.live.Live.{Live}
 use Rattle.nv_live.specs.Live.{DoesInTurn}
 use Rattle.nv_live.proofs.Doing.{did-then, did-read}

@@ -1,5 +1,5 @@
 use Rattle.std.proofs.Common.{◌≡◌, ◌∙◌, List, [], ℕ, ap, refl, sym, subst, ⊎_elim}
-use Rattle.nv_arrivals.specs.Views.{said_view}
+use Rattle.nv_script.specs.ArrivalViews.{said_view}
 use Rattle.nv_live.specs.Lines.{line_with, lines_with}
 use Rattle.nv_live.specs.SaidLines.{head_of, said_lines}
 use Rattle.nv_live.proofs.Noting.{writes-is}

@@ -1,6 +1,6 @@
 use Rattle.std.proofs.Common.{◌++◌, ◌∙◌, ap, codes}
-use Rattle.nv_arrivals.specs.Views.{view}
-use Rattle.nv_arrivals.specs.Writing.{line_text}
+use Rattle.nv_script.specs.ArrivalViews.{view}
+use Rattle.nv_script.specs.Writing.{line_text}
 use Rattle.nv_live.proofs.Noting.{one_line}
 use Rattle.nv_live.proofs.transcript.Transcript.set.Goals as goal
 

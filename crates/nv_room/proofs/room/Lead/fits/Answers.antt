@@ -1,7 +1,7 @@
 use Rattle.std.proofs.Common.{arith, sym, subst, ◌+◌, ◌≤◌, ℕ}
 use Rattle.std.specs.Prelude.{IsTrue, ◌↔◌}
 use Rattle.nv_pool.specs.Chunks.{chunks_of}
-use Rattle.nv_places.proofs.PoolOfLog.{from_is}
+use Rattle.nv_room.proofs.PoolOfLog.{from_is}
 use Rattle.nv_room.specs.Placement.{chunks_from, sizes}
 use Rattle.nv_room.proofs.Follows.{pool_count}
 use Rattle.nv_room.proofs.room.Lead.fits.Goals as goal

@@ -1,5 +1,5 @@
 use Rattle.std.proofs.Common.{ap, ◌∙◌}
-use Rattle.nv_lanes.specs.Lanes.{lives}
+use Rattle.nv_room.specs.Lanes.{lives}
 use Rattle.nv_room.proofs.room.Reader.lives.Goals as goal
 
 pub returns : goal.returns

@@ -1,5 +1,5 @@
 use Rattle.std.proofs.Common.{rules, arith, sym, subst, ℕ, ◌<◌, refl, inr}
-use Rattle.nv_places.specs.Header.{cursor_index}
+use Rattle.nv_room.specs.Header.{cursor_index}
 use Rattle.nv_room.proofs.Placement.{header_inside}
 use Rattle.nv_room.proofs.Cursors.{leaves_at}
 use Rattle.nv_room.proofs.room.Room.leave_step.Goals as goal

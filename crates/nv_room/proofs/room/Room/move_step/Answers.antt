@@ -1,5 +1,5 @@
 use Rattle.std.proofs.Common.{arith, sym, ap, refl, ◌<◌, ℕ, subst}
-use Rattle.nv_places.specs.Header.{cursor_index}
+use Rattle.nv_room.specs.Header.{cursor_index}
 use Rattle.nv_room.proofs.Placement.{header_inside}
 use Rattle.nv_room.proofs.HandingOver.{moves_at}
 use Rattle.nv_room.proofs.room.Room.move_step.Goals as goal

@@ -2,7 +2,7 @@ use Rattle.std.proofs.Common.{arith, sym, ap, ◌∙◌, ◌+◌, ◌<◌, ◌�
 use Rattle.std.proofs.lemmas.List.{nil_from_length}
 use Rattle.std.specs.Option.{ForSome}
 use Rattle.nv_words.specs.Spelling.{flag_bit}
-use Rattle.nv_places.specs.Header.{head_index, cursor_index}
+use Rattle.nv_room.specs.Header.{head_index, cursor_index}
 use Rattle.nv_room.specs.Spans.{LastHasEvent}
 use Rattle.nv_room.specs.Room.{MayHand}
 use Rattle.nv_room.specs.Trails.{Trails}

@@ -2,8 +2,8 @@ use Rattle.std.proofs.Common.{rules, arith, sym, ap, ◌∙◌, ◌<◌, ◌≤�
 use Rattle.std.proofs.lemmas.Bool.{eqb-false}
 use Rattle.std.specs.Prelude.{◌==◌}
 use Rattle.nv_words.specs.Spelling.{low}
-use Rattle.nv_places.specs.Logs.{lanes_after}
-use Rattle.nv_places.specs.declared.spot.Spot.{Spot}
+use Rattle.nv_room.specs.Logs.{lanes_after}
+use Rattle.nv_room.specs.declared.spot.Spot.{Spot}
 use Rattle.nv_room.specs.Placement.{next_slot, table_words}
 use Rattle.nv_room.specs.Caches.{HasNext}
 use Rattle.nv_room.specs.Trails.{Trails, IsSpot, NotedAt}

@@ -1,6 +1,6 @@
 use Rattle.std.proofs.Common.{rules, arith, sym, subst, refl, ap, ◌∙◌, ℕ, ◌<◌, ◌≤◌, length, length-set}
 use Rattle.nv_room.specs.Caches.{HasNext}
-use Rattle.nv_places.specs.Header.{cursor_index}
+use Rattle.nv_room.specs.Header.{cursor_index}
 use Rattle.nv_room.proofs.Placement.{header_inside}
 use Rattle.nv_room.specs.Trails.{Trails, NotedAt}
 use Rattle.nv_room.proofs.Looks.{looks_cursor}

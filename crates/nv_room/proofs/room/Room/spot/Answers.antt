@@ -1,6 +1,6 @@
 use Rattle.std.proofs.Common.{refl, ap, ◌∙◌, ◌%◌, ℕ, get_or, length}
 use Rattle.nv_pool.specs.Chunks.{first_chunk}
-use Rattle.nv_places.proofs.PoolOfLog.{first_is}
+use Rattle.nv_room.proofs.PoolOfLog.{first_is}
 use Rattle.nv_room.specs.Placement.{sizes}
 use Rattle.nv_room.proofs.room.Room.spot.Goals as goal
 

@@ -1,8 +1,8 @@
 use Rattle.std.proofs.Common.{arith, ap, sym, subst, ◌∙◌, ◌≡◌, ◌++◌, ◌∷◌, [], ℕ, length}
-use Rattle.nv_lanes.specs.Lanes.{lane_in}
+use Rattle.nv_room.specs.Lanes.{lane_in}
 use Rattle.nv_words.specs.Spelling.{low}
-use Rattle.nv_places.specs.Logs.{lane}
-use Rattle.nv_places.proofs.LogLaws.{lane_begun}
+use Rattle.nv_room.specs.Logs.{lane}
+use Rattle.nv_room.proofs.LogLaws.{lane_begun}
 use Rattle.nv_room.specs.Trails.{Trails, IsSpot}
 use Rattle.nv_room.proofs.Finds.{lane_first}
 use Rattle.nv_room.proofs.room.Room.spot_of.Goals as goal

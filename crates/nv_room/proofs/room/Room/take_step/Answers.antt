@@ -6,7 +6,7 @@ use Rattle.std.proofs.lemmas.Option.{same_Some}
 use Rattle.atomic_table.specs.Table.{rest}
 use Rattle.nv_words.specs.Spelling.{spell}
 use Rattle.nv_pool.specs.Pool.{Holds}
-use Rattle.nv_places.specs.Logs.{lanes_after}
+use Rattle.nv_room.specs.Logs.{lanes_after}
 use Rattle.nv_room.specs.Placement.{pool_chunks, sizes}
 use Rattle.nv_room.specs.Owner.{owner_word, held}
 use Rattle.nv_room.proofs.Placement.{header_inside}

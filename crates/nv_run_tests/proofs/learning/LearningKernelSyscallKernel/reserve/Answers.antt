@@ -2,8 +2,8 @@ use Rattle.std.proofs.Common.{◌≡◌, ◌∙◌, ap, sym, subst, ◌<◌, ℕ
 use Rattle.std.specs.Prelude.{◌≢◌, vec_len, vec_capacity}
 use Rattle.nv_calls.specs.Calls.{Entry, entry, request}
 use Rattle.nv_calls.proofs.ShapeLaws.{shaped-few}
-use Rattle.nv_served.specs.Learning.{GoesOn}
-use Rattle.nv_served.proofs.LearningLaws.{goes_on_same}
+use Rattle.nv_calls.specs.Learning.{GoesOn}
+use Rattle.nv_calls.proofs.LearningLaws.{goes_on_same}
 use Rattle.nv_run_tests.specs.Given.{is_input, from_given, given_by, IsTold}
 use Rattle.nv_run_tests.specs.Learning.{KernelState}
 use Rattle.nv_run_tests.specs.inner.Sound.{IsSound}

@@ -1,6 +1,6 @@
 use Rattle.std.proofs.Common.{append-nil}
-use Rattle.nv_arrivals.specs.Doings.{Says}
-use Rattle.nv_arrivals.specs.Views.{said_view}
+use Rattle.nv_script.specs.Doings.{Says}
+use Rattle.nv_script.specs.ArrivalViews.{said_view}
 use Rattle.nv_run_tests.specs.Transcript.{said_text}
 use Rattle.nv_run_tests.proofs.Texts.{text_more}
 use Rattle.nv_run_tests.proofs.transcript.Transcript.say.Goals as goal

@@ -1,6 +1,6 @@
 use Rattle.std.proofs.Common.{append-nil}
-use Rattle.nv_arrivals.specs.Doings.{Takes}
-use Rattle.nv_arrivals.specs.Views.{view as arrival_of}
+use Rattle.nv_script.specs.Doings.{Takes}
+use Rattle.nv_script.specs.ArrivalViews.{view as arrival_of}
 use Rattle.nv_run_tests.specs.Transcript.{taken_text}
 use Rattle.nv_run_tests.proofs.Texts.{text_more}
 use Rattle.nv_run_tests.proofs.transcript.Transcript.take.Goals as goal

@@ -1,5 +1,5 @@
 use Rattle.std.proofs.Common.{refl}
-use Rattle.nv_text.specs.Names.{defined}
+use Rattle.nv_bytes.specs.Names.{defined}
 use Rattle.nv_script.proofs.draft.Draft.new.Goals as goal
 
 pub invariant_of-result : goal.invariant_of-result

@@ -1,3 +1,0 @@
--- What contracts of private functions alone cite: who reads what the public ones say can pass it over.
-pub mod Views
-pub mod Going

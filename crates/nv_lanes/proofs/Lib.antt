@@ -1,3 +1,0 @@
-pub mod Windows
-pub mod LaneLaws
-pub mod LiveLaws

@@ -1,4 +1,0 @@
-pub mod Header
-pub mod Logs
-pub mod Stamps
-pub mod Placement

@@ -1,5 +1,0 @@
-pub mod Cutting
-pub mod Digits
-pub mod Known
-pub mod Laws
-pub mod Pairs

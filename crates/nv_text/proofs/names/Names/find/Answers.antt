@@ -1,8 +1,0 @@
-use Rattle.std.proofs.Common.{◌∙◌, ap}
-use Rattle.nv_text.specs.Names.{defined}
-use Rattle.nv_text.proofs.Known.{lookup-named}
-use Rattle.nv_text.proofs.names.Names.find.Goals as goal
-
-pub returns : goal.returns
-returns g c =
-    c.copied.ensures ∙ c.get.ensures.value ∙ lookup-named c.self.inside.first.entries c.args.name.now ∙ ap (λ names. defined names c.args.name.now) c.self.view_is

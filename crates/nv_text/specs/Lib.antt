@@ -1,5 +1,0 @@
-pub mod Fields
-pub mod Lines
-pub mod Names
-pub mod Numbers
-pub mod Parts
