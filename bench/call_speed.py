@@ -1,16 +1,18 @@
 #!/usr/bin/env python3
 """How many calls a second the program serves, call by call.
 
-    bench/call_speed.py [--program PATH] [--beside PATH]
+    bench/call_speed.py [--count] [--program PATH] [--beside PATH]
 
 Each guest makes one call again and again and exits. The built program runs it with 30,000 and with 120,000 calls; the report goes to
 /dev/null. The table has the median of five runs, the calls a second, and the time of a call in the longer run against the shorter one: it stays
 near 1 where a call's cost doesn't grow with the calls before it. `read` and `lseek` are on a file of 1 MiB and on one of 4 KiB. The start of the program
 with a guest that makes no call is taken off. PATH is crates/varan/out/varan where it isn't given: `cd crates/varan && rt run -- run --script data/s data/v` builds it.
 With --beside another program takes turns with it, run by run, and the last column has the time of a call by the first in parts of its time by the other.
+With --count the host's instructions a call are counted by callgrind, between 1,000 and 3,000 calls, in place of times: another load of the machine doesn't change them.
 """
 import argparse
 import os
+import re
 import statistics
 import subprocess
 import sys
@@ -21,6 +23,7 @@ TOP = os.path.dirname(os.path.dirname(os.path.abspath(__file__)))
 PROGRAM = os.path.join(TOP, "crates", "varan", "out", "varan")
 FEW, MANY = 30_000, 120_000
 RUNS = 5
+COUNTED = 1_000, 3_000
 LARGE, SMALL = 1 << 20, 1 << 12
 
 OPEN = """
@@ -68,16 +71,21 @@ def guest(before, calls, turns):
             '.data\nname: .ascii "f\\0"\nroom: .zero 4096\n')
 
 
-def seconds(programs, folder, script, text):
-    """The median time of each program, which take turns."""
+def words_for(program, folder, script, text):
+    """The words of a run of this guest, whose files are written."""
     with open(os.path.join(folder, "s"), "wb") as out:
         out.write(script)
     with open(os.path.join(folder, "t"), "w") as out:
         out.write(text)
     with open(os.path.join(folder, "v"), "wb") as out:
-        subprocess.run([programs[0], "asm", os.path.join(folder, "t")], stdout=out, check=True)
-    words = ["run", "--calls", "131072", "--budget", "100000000",
-             "--script", os.path.join(folder, "s"), os.path.join(folder, "v")]
+        subprocess.run([program, "asm", os.path.join(folder, "t")], stdout=out, check=True)
+    return ["run", "--calls", "131072", "--budget", "100000000",
+            "--script", os.path.join(folder, "s"), os.path.join(folder, "v")]
+
+
+def seconds(programs, folder, script, text):
+    """The median time of each program, which take turns."""
+    words = words_for(programs[0], folder, script, text)
     times = {program: [] for program in programs}
     for _ in range(RUNS):
         for program in programs:
@@ -89,10 +97,33 @@ def seconds(programs, folder, script, text):
     return [statistics.median(times[program]) for program in programs]
 
 
+def instructions(program, folder, script, text):
+    """Instructions of the host in a run, by callgrind."""
+    words = words_for(program, folder, script, text)
+    ran = subprocess.run(["valgrind", "--tool=callgrind", "--callgrind-out-file=/dev/null", program, *words],
+                         stdout=subprocess.DEVNULL, stderr=subprocess.PIPE, text=True)
+    found = re.search(r"Collected : (\d+)", ran.stderr)
+    if ran.returncode != 0 or not found:
+        sys.exit(f"{program}: status {ran.returncode}, and no count")
+    return int(found[1])
+
+
+def script_with(size):
+    """A script, with a file of so many bytes."""
+    return b"varan-script 1\n" + (b"file f " + b"61" * size + b"\n" if size else b"")
+
+
+def count(programs, folder, name, before, calls, size):
+    few, many = (it // calls.count("ecall") for it in COUNTED)
+    a_turn = [(instructions(it, folder, script_with(size), guest(before, calls, many))
+               - instructions(it, folder, script_with(size), guest(before, calls, few))) / (many - few) for it in programs]
+    first, *others = [it / calls.count("ecall") for it in a_turn]
+    beside = "".join(f"  {first / other:8.3f}" for other in others)
+    print(f"{name:28}  {first:12,.1f}{beside}", flush=True)
+
+
 def measure(programs, folder, name, before, calls, size, few, many):
-    script = b"varan-script 1\n"
-    if size:
-        script += b"file f " + b"61" * size + b"\n"
+    script = script_with(size)
     per_turn = calls.count("ecall")
     bases, shorts, longs = (seconds(programs, folder, script, guest(before, calls, turns)) for turns in (0, few // per_turn, many // per_turn))
     short, *_ = [(one - base) / few for one, base in zip(shorts, bases)]
@@ -105,9 +136,15 @@ def main():
     reader = argparse.ArgumentParser(description="how many calls a second the program serves")
     reader.add_argument("--program", default=PROGRAM)
     reader.add_argument("--beside")
+    reader.add_argument("--count", action="store_true")
     asked = reader.parse_args()
     programs = [os.path.abspath(it) for it in (asked.program, asked.beside) if it]
     with tempfile.TemporaryDirectory() as folder:
+        if asked.count:
+            print(f"{'call':28}  {'instructions':>12}" + (f"  {'beside':>8}" if asked.beside else ""))
+            for case in CASES + LONG_CASES:
+                count(programs, folder, *case)
+            return
         print(f"{'call':28}  {'calls/s':>12}  {'growth':>8}" + (f"  {'beside':>8}" if asked.beside else ""))
         for name, before, calls, size in CASES:
             measure(programs, folder, name, before, calls, size, FEW, MANY)
