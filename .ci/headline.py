@@ -21,7 +21,7 @@ MORE = "-- All of them, by theme. (.ci/headline.py --write makes the lines from 
 # The themes, in the order in which a reader may take them: a heading, where to begin, and the crates.
 THEMES = [
     ("What a command has to do: words and files", "begin with `IsDue` of nv_driver's Due, which has a case for each command; a live run's streams are `Lived` of Live",
-     "nv_cli nv_driver nv_command nv_outside"),
+     "nv_cli nv_driver nv_outside"),
     ("The monitor: leader, followers, rules", "begin with `Run` of nv_replay's Monitor and `Account` of Sequence; a rule's verdict is nv_rules' `verdict_of`",
      "nv_replay nv_rules nv_bpf"),
     ("The kernel: calls, files, sockets, what arrives", "begin with `serve_next` of nv_arriving's Arriving, then `serve` of nv_sockets' and of nv_kernel's Serving",

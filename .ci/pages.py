@@ -1,7 +1,7 @@
 #!/usr/bin/env python3
 """Holds pages against the code, and says what a page has otherwise.
 
-- Options: docs/varan.1 has those of nv_command/specs/Simple.antt, command by command, with the limits of Words.antt, and so has what `usage` writes
+- Options: docs/varan.1 has those of nv_driver/specs/Simple.antt, command by command, with the limits of Words.antt, and so has what `usage` writes
   (Help.antt); README.md and docs/REPORT.md have each command's usage as `usage` does, and name no other option.
 - Statuses: those of README.md, docs/varan.1, docs/LIVE.md and docs/PROVED.md are the definitions' (nv_driver/specs).
 - Refusals: docs/REPORT.md has each line with its status and each cause of the definitions, with something to do; docs/ASSEMBLER.md the causes of its texts.
@@ -197,15 +197,15 @@ def defaults_in(specs, head):
 
 def options(wrong):
     rows = options_in(read(MANUAL))
-    by_command = options_by_command(read("crates/nv_command/specs/Simple.antt"))
+    by_command = options_by_command(read("crates/nv_driver/specs/Simple.antt"))
     for name in sorted({*rows, *(one for found in by_command.values() for one in found)}):
         of = tuple(it for it in COMMANDS if name in by_command[it])
         if name not in rows or rows[name][0] != of:
             wrong.append(f"{MANUAL}: --{name} is an option of {', '.join(of) or 'no command'}")
-    for name, it in limits_in(read("crates/nv_command/specs/Words.antt")).items():
+    for name, it in limits_in(read("crates/nv_driver/specs/Words.antt")).items():
         if rows.get(name, ((), Limit()))[1] != it:
             run = f"from {it.least} to {it.most}, default {it.usual or 'none'}"
-            wrong.append(f"{MANUAL}: --{name} is {run}, for serve up to {it.most_served}, default {it.served or 'none'}, by nv_command/specs/Words.antt")
+            wrong.append(f"{MANUAL}: --{name} is {run}, for serve up to {it.most_served}, default {it.served or 'none'}, by nv_driver/specs/Words.antt")
     refusals = flat("docs/REPORT.md")
     for name, (_, it) in rows.items():
         said = f"`--{name}` from {commas(it.least)} to {commas(it.most)}" + (f" (for `serve` to {commas(it.most_served)})" if it.most_served != it.most else "")
@@ -240,8 +240,8 @@ def by_command(commands, limit):
 
 def helped(wrong):
     """What `usage` writes has the manual page's options, and each command's usage is in README.md and docs/REPORT.md."""
-    specs, page = read("crates/nv_command/specs/Help.antt"), "nv_command/specs/Help.antt"
-    commands = commands_by_name(read("crates/nv_command/specs/Words.antt"))
+    specs, page = read("crates/nv_driver/specs/Help.antt"), "nv_driver/specs/Help.antt"
+    commands = commands_by_name(read("crates/nv_driver/specs/Words.antt"))
     helped = options_helped(specs, commands)
     rows = {name: by_command(*row) for name, row in options_in(read(MANUAL)).items()}
     for name in sorted({*rows, *helped}):
@@ -418,9 +418,9 @@ def limits_told():
         found = re.search(pattern, read(f"crates/{path}"))
         for page, told in pages.items():
             yield page, told.format(f"{int(found[1]):,}") if found else f"no limit {pattern}", path
-    limits = limits_in(read("crates/nv_command/specs/Words.antt"))
+    limits = limits_in(read("crates/nv_driver/specs/Words.antt"))
     for option, page, told in OPTION_LIMITS:
-        yield page, told.format(**{name: commas(it) for name, it in limits[option]._asdict().items()}), "nv_command/specs/Words.antt"
+        yield page, told.format(**{name: commas(it) for name, it in limits[option]._asdict().items()}), "nv_driver/specs/Words.antt"
 
 
 def page_limits(wrong):

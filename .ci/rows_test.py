@@ -133,7 +133,7 @@ def main():
         for text, wanted in cases():
             count += 1
             (pathlib.Path(folder) / FILES[0]).write_text(text)
-            printed = subprocess.run([program], cwd=folder, capture_output=True, text=True, timeout=60).stdout.splitlines()
+            printed = subprocess.run([program, "rows"], cwd=folder, capture_output=True, text=True, timeout=60).stdout.splitlines()
             if printed != wanted:
                 wrong += 1
                 print(f"rows_test: {printed} in place of {wanted} for {text!r}")

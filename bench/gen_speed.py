@@ -4,8 +4,8 @@
 The first table is of `gen`: for four, three and two versions, the number below 1,000,000 that makes the most writes, of 64 bytes each, in the log.
 Every run has the median of five times, and the events a second, by the events that the summary tells. The share of verdicts is the
 number of rewrites, each of which is one verdict, times what a verdict of six instructions takes (the made filter has six) in
-`nv_bench rules`, of the run's time. The second table is of `run`: a guest that makes 9,999 writes of 64 bytes, in one and in three equal
-versions. Build both programs first: `cd crates/varan && rt run -- run --script data/s data/v`, `cd crates/nv_bench && rt run -- rules`.
+`nv_rows rules`, of the run's time. The second table is of `run`: a guest that makes 9,999 writes of 64 bytes, in one and in three equal
+versions. Build both programs first: `cd crates/varan && rt run -- run --script data/s data/v`, `cd crates/nv_rows && rt run -- rules`.
 """
 import os
 import re
@@ -17,7 +17,7 @@ import time
 
 from run_speed import PROGRAM, RUNS, TOP, image
 
-VERDICTS = [os.path.join(TOP, "crates", "nv_bench", "out", "nv_bench"), "rules"]
+VERDICTS = [os.path.join(TOP, "crates", "nv_rows", "out", "nv_rows"), "rules"]
 WRITES, SIZE = 9_999, 64
 FILTER, VERDICT_COUNT = 6, 5_000_000
 SUMMARY = re.compile(rb"gen (\d+) versions (\d+) output (\d+) log (\d+) exited (\d+) rewrites (\d+)\n")

@@ -2,8 +2,8 @@
    which a store or an answer that meets them empties. Regions with rights are searched at each load and store, as in machine_loops.c. With EACH defined the
    table isn't looked at, so that each step decodes.
 
-       machine_decoded GUEST COUNT                      a guest of `nv_bench machine`, for so many instructions
-       machine_decoded FILE MIB COUNT INPUT [OUTPUT]    the guest of an ELF file, as `nv_bench threads` runs it
+       machine_decoded GUEST COUNT                      a guest of `nv_rows machine`, for so many instructions
+       machine_decoded FILE MIB COUNT INPUT [OUTPUT]    the guest of an ELF file, as `nv_rows threads` runs it
 
    A file's guest has one thread, and finds what docs/GUESTS.md says. read gets the next bytes of INPUT, write is answered by what it was asked, brk moves the
    break, and all else is ENOSYS. What goes to descriptor 1 is written to OUTPUT, where there is one. Files are taken as they come: nothing looks for broken ones. */

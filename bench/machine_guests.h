@@ -1,4 +1,4 @@
-/* The guests of crates/nv_bench/src/machine.rt, by name: their words, and how many bytes these have. */
+/* The guests of crates/nv_rows/src/machine.rt, by name: their words, and how many bytes these have. */
 #ifndef MACHINE_GUESTS_H
 #define MACHINE_GUESTS_H
 

@@ -3,13 +3,13 @@
 
     bench/machine_loops.py [RUNS] [--before PROGRAM] [--host]
 
-First `step` in a bare loop, on the three guests of `nv_bench machine`: that program beside bench/machine_loops.c, which decodes at each step, with `step` as a call of its own, compiled into
+First `step` in a bare loop, on the three guests of `nv_rows machine`: that program beside bench/machine_loops.c, which decodes at each step, with `step` as a call of its own, compiled into
 the loop, and as a call with the addresses of the code kept for fetches; and beside bench/machine_decoded.c, which decodes once. All must print the same. `--before` names another build of
-nv_bench, as one from before a change.
+nv_rows, as one from before a change.
 
 Then whole programs from the stock compiler: loops over arrays (bench/machine_kernels.c), and Lua and bzip2 as examples/strangers builds them from Debian's sources, which it fetches where that wasn't
-done. They are run by `nv_bench threads` (`Process::advance`, what they write let go), by `varan run` on one thread (log and report with it), by bench/machine_decoded.c, as it is and decoding each
-time, and by qemu-riscv32. Before they are timed, the C interpreter has to write and to exit as qemu does, and to make as many calls and instructions as `nv_bench threads`.
+done. They are run by `nv_rows threads` (`Process::advance`, what they write let go), by `varan run` on one thread (log and report with it), by bench/machine_decoded.c, as it is and decoding each
+time, and by qemu-riscv32. Before they are timed, the C interpreter has to write and to exit as qemu does, and to make as many calls and instructions as `nv_rows threads`.
 
 All are run in turn, RUNS times (9). The tables have the medians and the bests of their processor times (user and system), and ratios of both. `--host` adds the host instructions of a guest's
 instruction, by valgrind, which don't depend on the load and take a quarter of an hour. Programs of this repository are taken as `rt ci` built them, or built by `rt run` where there is none.

@@ -3,7 +3,7 @@
 
     bench/ring_speed.py [RUNS]
 
-Takes the program that `rt ci` or `rt run nv_bench -- ring` built. Each row is the median of RUNS runs (9 by default); the kinds take turns, so that a busy minute meets all of them.
+Takes the program that `rt ci` or `rt run nv_rows -- ring` built. Each row is the median of RUNS runs (9 by default); the kinds take turns, so that a busy minute meets all of them.
 A run is one process with ten rounds (of one in C), timed from outside. The allocator keeps the memory that a round gave back for the next one,
 so that the kernel's log is paged in once and not ten times.
 
@@ -20,7 +20,7 @@ import tempfile
 import time
 
 BENCH = pathlib.Path(__file__).resolve().parent
-PROGRAM = BENCH.parent / "crates/nv_bench/out/nv_bench"
+PROGRAM = BENCH.parent / "crates/nv_rows/out/nv_rows"
 KEEPS_MEMORY = dict(os.environ, MALLOC_ARENA_MAX="1", MALLOC_TRIM_THRESHOLD_="4000000000", MALLOC_MMAP_THRESHOLD_="4000000000")
 EVENTS = {6: 1_000_000, 518: 100_000}
 KINDS = [("kernel alone", "kernel-{}"), ("lead, no reader", "ring-{}-0"), ("ring, 1 reader", "ring-{}-1"),

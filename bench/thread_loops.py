@@ -3,13 +3,13 @@
 
     bench/thread_loops.py [RUNS] [--before FOLDER] [--answers PROGRAM]
 
-A guest that counts down (`addi`, `bne`) runs for the same number of instructions as `nv_bench machine` calls `step`, as `nv_bench threads` calls `Process::advance`, in one
+A guest that counts down (`addi`, `bne`) runs for the same number of instructions as `nv_rows machine` calls `step`, as `nv_rows threads` calls `Process::advance`, in one
 thread and in eight that take turns, and as one version under `varan run` on one thread. Beside them the plain C interpreters of bench/machine_loops.c, with `step` as a call of its own
 and compiled into the loop, and of bench/machine_decoded.c, which decodes once. Runs them in turn (11 times by default), and prints the medians and the best of their processor times in millions of instructions a second, the speed
 of each against `step`, and how many times its time C takes. With valgrind it also prints the host instructions of each guest instruction, which don't depend on the load.
 
-Then a guest that reads, whose calls `nv_bench threads` answers with 4,096 bytes: nanoseconds an answer. `--before` names a folder with other builds of varan and nv_bench, as
-from before a change, whose loops are timed as well, and `--answers` another build of nv_bench that answers.
+Then a guest that reads, whose calls `nv_rows threads` answers with 4,096 bytes: nanoseconds an answer. `--before` names a folder with other builds of varan and nv_rows, as
+from before a change, whose loops are timed as well, and `--answers` another build of nv_rows that answers.
 
 Takes the programs as `rt ci` built them, or builds those that aren't there with `rt run`.
 """
@@ -39,8 +39,8 @@ def built(crate, *words):
 
 
 def timed_program(module):
-    """The words that a run of nv_bench begins with, which name what is timed."""
-    return [built("nv_bench", "machine", "count", "1"), module]
+    """The words that a run of nv_rows begins with, which name what is timed."""
+    return [built("nv_rows", "machine", "count", "1"), module]
 
 
 class Programs:
@@ -57,7 +57,7 @@ class Programs:
             "varan run": lambda steps: self.run_of(PROGRAM, steps),
         }
         if before:
-            other = os.path.join(before, "nv_bench")
+            other = os.path.join(before, "nv_rows")
             self.words["advance, one thread, before"] = lambda steps: [other, "threads", "one", str(steps)]
             self.words["varan run, before"] = lambda steps: self.run_of(os.path.join(before, "varan"), steps)
         for name, source, flags in (

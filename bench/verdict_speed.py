@@ -7,9 +7,9 @@ Where a loop lies in a line of 64 bytes can cost half of its time again, in eith
 further on, and a program's time is that of its best place. All are run in turn, RUNS times (9), each run a process; the table has the medians of their processor times (user and system), in
 nanoseconds a verdict, and of the best place also the least. With valgrind it has the host instructions of a verdict too, which depend neither on the place nor on the load.
 
-`--before` names the object of another build of crates/nv_bench (out/nv_bench.o), as one from before a change.
+`--before` names the object of another build of crates/nv_rows (out/nv_rows.o), as one from before a change.
 
-The verdicts are those of `nv_bench rules`. Takes the object as `rt ci` left it, or has `rt run` make it; links it as these do. Needs cc, nm and the kit's `rt` in PATH.
+The verdicts are those of `nv_rows rules`. Takes the object as `rt ci` left it, or has `rt run` make it; links it as these do. Needs cc, nm and the kit's `rt` in PATH.
 """
 import argparse
 import os

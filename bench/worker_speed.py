@@ -12,7 +12,7 @@ were taken in turns. With `--before PROGRAM` the last table also times another p
   call. Where the leader waits for nobody the run takes as long as the follower computes, and else as long as both.
 - Seven followers that wait for a leader which computes: the processor time of all against the wall time.
 - Versions of 16 MiB that exit at once: what comes before the first instruction.
-- One version that writes against the plain monitor on one thread (`nv_bench sequence`), with the same report.
+- One version that writes against the plain monitor on one thread (`nv_rows sequence`), with the same report.
 """
 import os
 import resource
@@ -25,7 +25,7 @@ import time
 
 TOP = os.path.dirname(os.path.dirname(os.path.abspath(__file__)))
 PROGRAM = os.path.join(TOP, "crates", "varan", "out", "varan")
-PLAIN = os.path.join(TOP, "crates", "nv_bench", "out", "nv_bench")
+PLAIN = os.path.join(TOP, "crates", "nv_rows", "out", "nv_rows")
 RUNS = int(os.environ.get("RUNS", "5"))
 # In the place of options: each guest in a process of its own.
 APART = ("apart",)

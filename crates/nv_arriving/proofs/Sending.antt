@@ -5,7 +5,7 @@ use denote.RattleType.{RattleType}
 use denote.Struct.Declared.{shape}
 use Rattle.std.proofs.Crossing.{crosses}
 use Rattle.std.specs.contracts.snapshot.Snapshot as Snapshot
-use Rattle.nv_past.proofs.past.Past.TheSendSync.{the_send as past_send}
+use Rattle.nv_calls.proofs.past.Past.TheSendSync.{the_send as past_send}
 use Rattle.nv_calls.proofs.bytes.Bytes.TheSendSync.{the_send as bytes_send}
 use Rattle.nv_calls.proofs.calls.Event.TheSendSync.{the_field_send as event_send}
 use Rattle.nv_script.proofs.arrival.Arrival.TheSendSync.{the_field_send as arrival_send}

@@ -17,15 +17,14 @@ ghost use Rattle.nv_arriving.specs.Standing.{StandsAt};
 ghost use Rattle.nv_arriving.specs.Views.{standing_of, room_of};
 
 use crate::arrivals::{learn, rest};
-use crate::guests::GuestSide;
+use crate::guests::{GuestSide, say};
 use crate::listed::{Nothing, copies};
 use crate::timing::Until;
 use crate::waiting::Intake;
-use nv_calls::{Bytes, Call, Syscall};
+use nv_calls::{Bytes, Call, Past, Syscall};
 use nv_fs::FileSystem;
 use nv_kernel::Answers;
 use nv_live::Telling;
-use nv_past::Past;
 use nv_script::{Arrival, Outside, Script};
 use nv_sockets::Connection;
 use std::alloc::{AllocError, Global};
@@ -271,19 +270,13 @@ impl<O: Outside + Telling + Send> Answers for Guests<O> {
             count,
             vain,
         } = self.intake;
-        let ret = self.side.answer(
-            syscall,
-            call,
-            until,
-            first(rest, count),
-            vain,
-            self.keeps,
-            out,
-            &mut self.outside,
-        );
+        self.side.take_in(first(rest, count), vain);
+        let outcome = self.side.answer_by(syscall, call, until, out);
+        say(&mut self.outside, outcome.did, call.payload.as_slice());
+        self.side.let_go_unless(self.keeps, outcome.did);
         self.used += count;
         pass(&mut self.came, self.used);
-        ret
+        outcome.ret
     }
 
     fn hands_over(&mut self, length: usize) -> bool

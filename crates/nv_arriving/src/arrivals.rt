@@ -14,8 +14,7 @@ ghost use Rattle.nv_arriving.specs.Telling.{Adds};
 use crate::guests::GuestSide;
 use crate::timing::Until;
 use crate::waiting::{Intake, Want};
-use nv_calls::{Call, Syscall};
-use nv_past::Past;
+use nv_calls::{Call, Past, Syscall};
 use nv_script::{Arrival, Outside};
 use std::alloc::{AllocError, Global};
 

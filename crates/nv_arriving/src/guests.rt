@@ -1,20 +1,19 @@
 // The guests' side: what the kernel holds, and what won't come any more.
 ghost use Rattle.std.specs.Prelude.{◌≡◌, ◌≤◌, ◌<◌, List, length, map, true, false, [], ◌∷◌, None, OnOk, IfOk};
-ghost use Rattle.nv_calls.specs.Calls.{request};
-ghost use Rattle.nv_calls.specs.Limits.{MOST_BYTES, MOST_EVENTS};
+ghost use Rattle.nv_calls.specs.Calls.{Request, request};
+ghost use Rattle.nv_calls.specs.Limits.{MOST_BYTES};
 ghost use Rattle.nv_calls.specs.Numbers.{syscall_of};
 ghost use Rattle.nv_script.specs.Views.{setup_of};
-ghost use Rattle.nv_kernel.specs.Reserved.{CanAnswer, most_out};
+ghost use Rattle.nv_kernel.specs.Reserved.{CanAnswer};
 ghost use Rattle.nv_sockets.specs.Coming.{HasPlaces};
 ghost use Rattle.nv_sockets.specs.Reserved.{CanSend};
-ghost use Rattle.nv_arriving.specs.Arriving.{Standing, wants_input, is_over, wants_data, read_wants, wants_client, accept_wants, wants_on, wants_as, wants, arrive, arrive_all, unless_vain, serve_by, first_standing};
+ghost use Rattle.nv_arriving.specs.Arriving.{Standing, wants_input, is_over, wants_data, read_wants, wants_client, accept_wants, wants_on, wants_as, wants, arrive, arrive_all, unless_vain, first_standing};
 ghost use Rattle.nv_arriving.specs.Timing.{until_of};
-ghost use Rattle.nv_arriving.specs.Doings.{of_bytes, said};
 ghost use Rattle.nv_arriving.specs.Said.{said_of, settled};
 ghost use Rattle.nv_arriving.specs.Telling.{Adds};
 ghost use Rattle.nv_arriving.specs.Reserved.{CanTakeIn, HasRoom, IsSameBut, IsKept, with_memory};
 ghost use Rattle.nv_script.specs.Arrivals as spec;
-ghost use Rattle.nv_script.specs.Doings.{Says, Sent, Printed};
+ghost use Rattle.nv_script.specs.Doings.{Says};
 ghost use Rattle.nv_script.specs.ArrivalViews.{view as arrival_of};
 ghost use Rattle.nv_arriving.specs.Views.{standing_of, room_of};
 
@@ -23,7 +22,7 @@ use crate::prepared::Prepared;
 use crate::reserving::{connects, forget_all, input_bytes, promise_all};
 use crate::timing::Until;
 use crate::waiting::Want;
-use nv_calls::{Bytes, Call, MOST_BYTES, MOST_VECTORS, Syscall};
+use nv_calls::{Call, MOST_BYTES, MOST_VECTORS, Syscall};
 use nv_fs::parts::prefix;
 use nv_script::{Arrival, Outside, Said, Script};
 use nv_sockets::{Did, Host, Socket, Sockets, are_flags};
@@ -45,35 +44,27 @@ pub struct GuestSide {
     kept: Prepared,
 }
 
-fn say_sent<O: Outside>(outside: &mut O, i: usize, bytes: &[u8])
-    ensures says { Adds O.did outside.old outside.new (map Says (of_bytes (Sent i) bytes.now)) }
-    ensures stays { O.is_over outside.old → O.is_over outside.new }
-{
-    if !bytes.is_empty() {
-        outside.say(&Said::Sent(i, bytes));
-    }
-}
-
-fn say_printed<O: Outside>(outside: &mut O, bytes: &[u8])
-    ensures says { Adds O.did outside.old outside.new (map Says (of_bytes Printed bytes.now)) }
-    ensures stays { O.is_over outside.old → O.is_over outside.new }
-{
-    if !bytes.is_empty() {
-        outside.say(&Said::Printed(bytes));
-    }
-}
-
-// Says what a call did that handed in these bytes.
-fn say<O: Outside>(outside: &mut O, did: Did, bytes: &[u8])
+/// Says what a call did that handed in these bytes.
+pub(crate) fn say<O: Outside>(outside: &mut O, did: Did, bytes: &[u8])
     ensures says { Adds O.did outside.old outside.new (map Says (said_of did bytes.now)) }
     ensures stays { O.is_over outside.old → O.is_over outside.new }
 {
     match did {
         Did::Nothing => {}
         Did::Accepted(i) => outside.say(&Said::Accepted(i)),
-        Did::Sent(i, count) => say_sent(outside, i, prefix(bytes, count)),
+        Did::Sent(i, count) => {
+            let sent = prefix(bytes, count);
+            if !sent.is_empty() {
+                outside.say(&Said::Sent(i, sent));
+            }
+        }
         Did::Closed(i) => outside.say(&Said::Closed(i)),
-        Did::Printed(count) => say_printed(outside, prefix(bytes, count)),
+        Did::Printed(count) => {
+            let printed = prefix(bytes, count);
+            if !printed.is_empty() {
+                outside.say(&Said::Printed(printed));
+            }
+        }
     }
 }
 
@@ -273,6 +264,20 @@ impl GuestSide {
         }
     }
 
+    /// These arrive, for which there is memory; and where a call waits in vain nothing more comes of anything.
+    pub(crate) fn take_in(&mut self, arrivals: &[Arrival], vain: bool)
+        requires { CanTakeIn (room_of self.old) (map arrival_of arrivals.now) }
+        ensures standing { standing_of self.new ≡ unless_vain vain (arrive_all (standing_of self.old) (map arrival_of arrivals.now)) }
+        ensures served { (standing_of self.new).state.own.served ≡ (standing_of self.old).state.own.served }
+        ensures clones { (standing_of self.new).state.own.crew.clones ≡ (standing_of self.old).state.own.crew.clones }
+        ensures ready { (call : Request) → CanAnswer self.old.host.devices.files call → CanAnswer self.new.host.devices.files call }
+        ensures sends { (call : Request) → (wants (standing_of self.old) call ≡ None → length arrivals.now ≡ 0) → CanSend self.old.host.sockets call → CanSend self.new.host.sockets call }
+        ensures kept { IsKept (room_of self.old) → IsKept (room_of self.new) }
+    {
+        self.arrive_all(arrivals);
+        self.tell_end(vain);
+    }
+
     // What was said is let go: the console, and what was written to a connection.
     fn let_go(&mut self, did: Did)
         ensures standing { standing_of self.new ≡ standing_of self.old }
@@ -283,8 +288,8 @@ impl GuestSide {
         settle(&mut self.host.sockets, did);
     }
 
-    // So, where it isn't kept.
-    fn let_go_unless(&mut self, keeps: bool, did: Did)
+    /// So, where it isn't kept.
+    pub(crate) fn let_go_unless(&mut self, keeps: bool, did: Did)
         ensures standing { standing_of self.new ≡ standing_of self.old }
         ensures kept { keeps ≡ true → self.new ≡ self.old }
         ensures console { keeps ≡ false → self.new.host.devices.files.gone ≡ length self.new.host.devices.files.state.console }
@@ -293,45 +298,6 @@ impl GuestSide {
         if !keeps {
             self.let_go(did);
         }
-    }
-
-    /// The result of a call that takes in these, with the bytes that it hands out, or that waits in vain. What it does is said outside, and
-    /// let go unless what is said is kept.
-    pub(crate) fn answer<O: Outside>(
-        &mut self,
-        syscall: Syscall,
-        call: &Call,
-        until: Until,
-        arrivals: &[Arrival],
-        vain: bool,
-        keeps: bool,
-        out: &mut Bytes,
-        outside: &mut O,
-    ) -> i32
-        requires syscall { syscall ≡ syscall_of call.now.nr }
-        requires until { until ≡ until_of (standing_of self.old) (request call.now) }
-        requires takes { CanTakeIn (room_of self.old) (map arrival_of arrivals.now) }
-        requires waits { wants (standing_of self.old) (request call.now) ≡ None → length arrivals.now ≡ 0 }
-        requires ready { CanAnswer self.old.host.devices.files (request call.now) }
-        requires sends { CanSend self.old.host.sockets (request call.now) }
-        requires few { (standing_of self.old).state.own.served < MOST_EVENTS }
-        requires capacity { MOST_BYTES ≤ out.old.capacity }
-        requires clones { (standing_of self.old).state.own.crew.clones < MOST_EVENTS }
-        ensures answer { serve_by (unless_vain vain (arrive_all (standing_of self.old) (map arrival_of arrivals.now))) (request call.now) (until_of (standing_of self.old) (request call.now))
-            ≡ record { state = standing_of self.new; ret = result; payload = out.new.bytes } }
-        ensures said { Adds O.did outside.old outside.new (map Says (said (unless_vain vain (arrive_all (standing_of self.old) (map arrival_of arrivals.now))).state (request call.now) result (standing_of self.new).state)) }
-        ensures stays { O.is_over outside.old → O.is_over outside.new }
-        ensures capacity { out.new.capacity ≡ out.old.capacity }
-        ensures few { length out.new.bytes ≤ most_out (request call.now) }
-        ensures kept { keeps ≡ true → IsKept (room_of self.old) → IsKept (room_of self.new) }
-        ensures gone { keeps ≡ false → self.new.host.devices.files.gone ≡ length self.new.host.devices.files.state.console }
-    {
-        self.arrive_all(arrivals);
-        self.tell_end(vain);
-        let outcome = self.answer_by(syscall, call, until, out);
-        say(outside, outcome.did, call.payload.as_slice());
-        self.let_go_unless(keeps, outcome.did);
-        outcome.ret
     }
 
     // Memory for so many more clients.

@@ -2,8 +2,8 @@
 ghost use Rattle.std.specs.Prelude.{◌≡◌, IfOk, map};
 ghost use Rattle.nv_script.specs.ArrivalViews.{view as arrival_of};
 
+use nv_calls::Past;
 use nv_live::Telling;
-use nv_past::Past;
 use nv_script::{Arrival, Outside, Said};
 use std::alloc::{AllocError, Global};
 

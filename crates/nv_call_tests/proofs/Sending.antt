@@ -3,7 +3,7 @@ use denote.Param.Send.{IsSend, sendable, recorded_send, struct_send, view_send}
 use denote.Struct.Declared.{shape}
 use Rattle.std.proofs.Crossing.{crosses}
 use Rattle.std.specs.contracts.snapshot.Snapshot as Snapshot
-use Rattle.nv_past.proofs.past.Past.TheSendSync.{the_send as past_send}
+use Rattle.nv_calls.proofs.past.Past.TheSendSync.{the_send as past_send}
 use Rattle.nv_calls.proofs.bytes.Bytes.TheSendSync.{the_send as bytes_send}
 use Rattle.nv_calls.proofs.calls.Event.TheSendSync.{the_field_send as event_send}
 use Rattle.nv_kernel.proofs.devices.Devices.TheSendSync.{the_send as devices_send}

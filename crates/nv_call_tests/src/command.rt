@@ -1,5 +1,5 @@
 // The values of options, which no answer tells, and words with blanks. All else of a line is told by rows.
-use nv_command::{Command, Limits, Look, Point, Run, ScriptFile, Service, Trail, read};
+use nv_driver::{Command, Limits, Look, Point, Run, ScriptFile, Service, Trail, read};
 use std::alloc::{AllocError, Global};
 use std::test::Fail;
 

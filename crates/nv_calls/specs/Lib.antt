@@ -10,3 +10,5 @@ pub mod Shapes
 pub mod Constants
 pub mod Logs
 pub mod Answer
+pub mod Known
+pub mod Tables

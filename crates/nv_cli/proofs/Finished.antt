@@ -6,9 +6,9 @@ use Rattle.nv_outside.specs.Counts.{Rose}
 use Rattle.nv_outside.specs.Told.{Grows}
 use Rattle.nv_outside.specs.Sink.{Put, faults_by}
 use Rattle.nv_outside.specs.Gathering.{with_held}
-use Rattle.nv_command.specs.Words.{texts}
-use Rattle.nv_command.specs.declared.asked.LineFault.{LineFault}
-use Rattle.nv_command.specs.declared.asked.LineFault.TheVariants as line
+use Rattle.nv_driver.specs.Words.{texts}
+use Rattle.nv_driver.specs.declared.asked.LineFault.{LineFault}
+use Rattle.nv_driver.specs.declared.asked.LineFault.TheVariants as line
 use Rattle.nv_driver.specs.Due.{AnswersOver, Says, Completes, Rejects, IsUntouched, Shows}
 use Rattle.nv_driver.specs.Live.{Streams}
 use Rattle.nv_driver.specs.declared.ending.Ending.{Ending}

@@ -1,7 +1,7 @@
 -- A live run that served is answered.
 use Rattle.std.proofs.Common.{◌≡◌, ◌⊎◌, ⊎_elim, ℕ, List, Option, Some}
 use Rattle.nv_bpf.specs.declared.op.Op.{Op}
-use Rattle.nv_command.specs.Words.{Service, Serves, command_of}
+use Rattle.nv_driver.specs.Words.{Service, Serves, command_of}
 use Rattle.nv_machine.specs.Guest.{Machine}
 use Rattle.nv_script.specs.Scripts.{Setup}
 use Rattle.nv_driver.specs.Due.{AnswersOver, Says}

@@ -4,7 +4,7 @@ use Rattle.nv_calls.specs.Calls.{Entry}
 use Rattle.nv_calls.specs.Logs.{Start}
 use Rattle.nv_threads.specs.Behaviours.{Behaviour, IsProcess}
 use Rattle.nv_replay.specs.declared.standing.Standing.{Standing}
-use Rattle.nv_replay.specs.Follow.{Follower, Judge, fresh, follow}
+use Rattle.nv_replay.specs.Follow.{Follower, Judge}
 use Rattle.nv_replay.specs.Sequence.{Account, leads, turn, sequence_from}
 use Rattle.nv_replay.specs.Sequence as plain
 use Rattle.nv_replay.specs.Monitor.{sequence}

@@ -3,7 +3,7 @@ use Rattle.std.proofs.Common.{◌≡◌, ◌∙◌, sym, ap, subst, ℕ, ◌≤�
 use Rattle.nv_bpf.specs.declared.op.Op.{Op}
 use Rattle.nv_calls.specs.Calls.{Entry}
 use Rattle.nv_calls.specs.Logs.{Start}
-use Rattle.nv_command.specs.Words.{Limits}
+use Rattle.nv_driver.specs.Words.{Limits}
 use Rattle.nv_arriving.specs.Scripted.{start_from}
 use Rattle.nv_machine.specs.Guest.{Machine}
 use Rattle.nv_replay.proofs.Agreeing.{sequence_short}

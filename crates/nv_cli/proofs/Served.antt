@@ -1,5 +1,5 @@
 -- What a live run's account, its log and what is left of its streams say together.
-use Rattle.std.proofs.Common.{◌≡◌, ◌∙◌, refl, sym, ap, subst, ℕ, Bool, true, false, List, [], ◌++◌, Option, None, Some, is_some, Result, Ok, map, ◌⊎◌, ⊎_elim, inl, inr}
+use Rattle.std.proofs.Common.{◌≡◌, ◌∙◌, refl, sym, ap, subst, ℕ, Bool, true, false, List, [], ◌++◌, Option, None, is_some, Result, Ok, map, ◌⊎◌, ⊎_elim, inl, inr}
 use Rattle.std.specs.List.{All, list_all}
 use Rattle.std.specs.Result.{is_ok}
 use Rattle.std.proofs.lemmas.Bool.{and_parts}
@@ -14,7 +14,7 @@ use Rattle.nv_arriving.specs.Telling.{taken_before, are_at_most, Tells, IsTold}
 use Rattle.nv_bpf.specs.declared.op.Op.{Op}
 use Rattle.nv_calls.specs.Calls.{Entry}
 use Rattle.nv_calls.specs.Logs.{calls_of}
-use Rattle.nv_command.specs.Words.{Limits}
+use Rattle.nv_driver.specs.Words.{Limits}
 use Rattle.nv_kernel.specs.Logged.{Logged}
 use Rattle.nv_live.specs.Lines.{held_text}
 use Rattle.nv_live.specs.Live.{stop_with}

@@ -3,7 +3,7 @@ use Rattle.std.specs.Prelude.{◌≡◌, ◌⊎◌, ℕ, List, Option, None, Som
 use Rattle.nv_outside.specs.Told.{Told}
 use Rattle.nv_outside.specs.CalmSink.{kept_of, is_over}
 use Rattle.nv_outside.specs.declared.calm_sink.CalmSink.{CalmSink}
-use Rattle.nv_command.specs.Words.{Command, command_of}
+use Rattle.nv_driver.specs.Words.{Command, command_of}
 use Rattle.nv_driver.specs.Due.{IsAccepted, IsRefused, IsDone}
 
 -- what the sink tells

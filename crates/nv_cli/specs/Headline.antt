@@ -22,17 +22,17 @@ use Rattle.nv_driver.specs.Causes.{cause_text}
 use Rattle.nv_driver.specs.Due.{RunComesTo, made_outcome, RunOwes, JobOwes, GenOwes, lack_outcome, traced_outcome, TrailOwes, replayed, files_after, shown_of, shown, RecordComesTo, RecordOwes, ServeComesTo, ServeOwes, Owes, OwesAny, IsDue, IsUntouched, Shows, Says, Answers, ServedOver, Over, AnswersOver, IsReady, IsMade, IsTraced, IsAccepted, IsRefusedAt, IsRefusedFor, IsRefusedOn, IsRefused as nv_driver_IsRefused, IsReport, IsDone, Completes, Rejects}
 use Rattle.nv_driver.specs.Found.{FILE_LIMIT, TRACE_LIMIT, TRANSCRIPT_LIMIT, script_limit, is_longer, TookMore, Found, IsReadWithin, IsLongerThan, AgreesWithin, Agrees, ScriptAgrees, AllAgree, AgreesIf, Finds, AreFound, found_whole, found_within, found_of, script_found, finds_of}
 use Rattle.nv_driver.specs.Generated.{IsMadeRun}
+use Rattle.nv_driver.specs.Help.{usage_line, script_help, transcript_help, start_help, rules_help, ring_help, memory_help, budget_help, no_budget_help, hang_help, usual_hang_help, calls_help, many_calls_help, threads_help, json_help, clients_help, patience_help, log_help, index_help, stamp_help, call_help, count_help, dump_help, length_help, asm_help, option_lines, example_line, more_help, help_lines, help_of}
 use Rattle.nv_driver.specs.Live.{bare_text, after_first_line, whole_lines, transcript_head, unless_comes, without_arrivals, as_begun, live_script, after_live_script, live_prepared, AgreesOrBare, AreLiveFound, found_or_bare, live_finds_of, with_arrivals, with_hands, Streams, Unserved, ended_by_writes, ending_of, StoodAt, Lived}
 use Rattle.nv_driver.specs.Made.{accepted_text, accepted_filter, of_rules, of_program, used, unless_refused, made_of}
 use Rattle.nv_driver.specs.Outcome.{Outcome, account_text, totals_of, ending_status, refused_text, text_of as nv_driver_text_of, outcome_status, ended_with, name_at, limit_at, name_in as nv_driver_name_in, name_on, limit_on, Source, source_of}
 use Rattle.nv_driver.specs.Prepared.{VersionOf, of_loaded, of_elf, version_from, Prepared, read_at, with_first_machine, version_then, versions_from, judged_by, rules_then, after_rules, after_script, prepared}
 use Rattle.nv_driver.specs.Replayed.{counts_text, replay_text, replay_status}
+use Rattle.nv_driver.specs.Simple.{option_rule, flag_rule, file_rule, files_rule, word_rule, simple_app, run_options, run_app, record_app, serve_app, trail_options, look_options, trail_files, replay_app, inspect_app, rules_app, asm_app, gen_app, help_app}
 use Rattle.nv_driver.specs.Tasks.{fault_outcome}
 use Rattle.nv_driver.specs.Traced.{TraceFinds, AreTraceFound, trace_finds_of, Lack, then_with, bytes_found, of_script, script_at, traced_rules, rules_at, unless_unsound, log_unless_faulty, trace_of_file, of_trace, log_at, trail_limits, traced_version, machine_traced, Traced, after_log, after_filter, after_setup, traced}
 use Rattle.nv_driver.specs.Tracing.{trace_point}
-use Rattle.nv_command.specs.Help.{usage_line, script_help, transcript_help, start_help, rules_help, ring_help, memory_help, budget_help, no_budget_help, hang_help, usual_hang_help, calls_help, many_calls_help, threads_help, json_help, clients_help, patience_help, log_help, index_help, stamp_help, call_help, count_help, dump_help, length_help, asm_help, option_lines, example_line, more_help, help_lines, help_of}
-use Rattle.nv_command.specs.Simple.{option_rule, flag_rule, file_rule, files_rule, word_rule, simple_app, run_options, run_app, record_app, serve_app, trail_options, look_options, trail_files, replay_app, inspect_app, rules_app, asm_app, gen_app, help_app}
-use Rattle.nv_command.specs.Words.{texts, unless_faulty, rows_of_line, number_between, number_within, in_pages, Limits, usual, service_usual, ring_of, memory_of, Allowance, allowed, allowance_from, allowance_of, calls_asked, threads_asked, limits_of, versions_asked, is_set, Parts as nv_command_Parts, parts_of, ScriptFile, script_from, script_asked, Plan, plan_of, report_plan_of, patience_from, patience_of, Service, service_of, index_of, Trail, trail_of, Point, point_from, point_of, range_of, dump_from, dump_of, Look, look_of, Job, rules_job_of, asm_job_of, number_in, Name, name_spelt, topic_from, topic_of, Command, run_line, serve_line, rules_line, asm_line, gen_line, record_line, replay_line, inspect_line, help_line, asked_by, command_name, after_program, command_of}
+use Rattle.nv_driver.specs.Words.{texts, unless_faulty, rows_of_line, number_between, number_within, in_pages, Limits, usual, service_usual, ring_of, memory_of, Allowance, allowed, allowance_from, allowance_of, calls_asked, threads_asked, limits_of, versions_asked, is_set, Parts as nv_driver_Parts, parts_of, ScriptFile, script_from, script_asked, Plan, plan_of, report_plan_of, patience_from, patience_of, Service, service_of, index_of, Trail, trail_of, Point, point_from, point_of, range_of, dump_from, dump_of, Look, look_of, Job, rules_job_of, asm_job_of, number_in, Name, name_spelt, topic_from, topic_of, Command, run_line, serve_line, rules_line, asm_line, gen_line, record_line, replay_line, inspect_line, help_line, asked_by, command_name, after_program, command_of}
 use Rattle.nv_outside.specs.Counts.{raised, Rose}
 use Rattle.nv_outside.specs.Files.{GotTold, KeepsFaults}
 use Rattle.nv_outside.specs.Sink.{Writes, faults_by_write, Put, faults_by, Puts}

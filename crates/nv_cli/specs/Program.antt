@@ -3,8 +3,8 @@ use Rattle.std.specs.Prelude.{◌≡◌, ◌++◌, ℕ, List, Option, None, Some
 use Rattle.std.specs.Global.{Global}
 use Rattle.nv_outside.specs.Told.{Told, Grows}
 use Rattle.nv_outside.specs.Sink.{Put, faults_by}
-use Rattle.nv_command.specs.Words.{texts, command_of}
-use Rattle.nv_command.specs.declared.asked.LineFault.{LineFault}
+use Rattle.nv_driver.specs.Words.{texts, command_of}
+use Rattle.nv_driver.specs.declared.asked.LineFault.{LineFault}
 use Rattle.nv_driver.specs.Due.{IsDue, IsUntouched, Over, Shows, Completes, Rejects}
 use Rattle.nv_driver.specs.Live.{Streams}
 use Rattle.nv_driver.specs.Outcome.{Outcome, Source, outcome_status, text_of, ended_with, ending_status}

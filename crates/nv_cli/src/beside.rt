@@ -10,7 +10,7 @@ ghost use Rattle.nv_cli.specs.inner.Demands.{IsAccountOnDemand};
 
 use nv_bpf::Filter;
 use nv_calls::SyscallKernel;
-use nv_command::Limits;
+use nv_driver::Limits;
 use nv_replay::{Account, Version};
 use nv_room::Room;
 use nv_workers::{Gate, Stock, Terms, end, run_staffed};

@@ -3,51 +3,18 @@ ghost use Rattle.std.specs.Prelude.{◌≡◌, ◌≢◌};
 ghost use Rattle.nv_outside.specs.Gathering.{sink_of, held_of};
 ghost use Rattle.nv_driver.specs.Outcome.{source_of, ending_status};
 ghost use Rattle.nv_driver.specs.Due.{Says};
-ghost use Rattle.nv_cli.specs.Program.{ProgramAnswers, ProcessEnds};
+ghost use Rattle.nv_cli.specs.Program.{ProcessEnds};
 ghost use Rattle.nv_cli.specs.Streams.{streams_of, left_of};
 
 use crate::serving::Left;
-use crate::varan_over;
-use nv_command::LineFault;
-use nv_driver::{Ending, WRITE_FAULT, ended, ending_status, refuse_words};
+use crate::top::answer;
+use nv_driver::{Ending, LineFault, WRITE_FAULT, ended, ending_status, refuse_words};
 use nv_live::{ReadBeside, Streams};
 use nv_outside::{Files, Gathering, Sink};
 use nv_workers::Gate;
 use std::alloc::Global;
 use std::sync::Wait;
 use std::thread::Threads;
-
-// Does what the words ask for, or says why there are none.
-fn answer<
-    R: Threads + Wait + Sync,
-    F: Files,
-    S: Sink,
-    G: Gate + Sync,
-    I: ReadBeside<O, T> + Send,
-    O: Sink + Drop + Send,
-    T: Sink + Drop + Send,
->(
-    rt: &R,
-    alloc: Global,
-    words: Result<Vec<String>, LineFault>,
-    files: &mut F,
-    sink: &mut S,
-    gate: &G,
-    streams: Streams<I, O, T>,
-) -> (u8, Left<I, O, T>)
-    ensures { ProgramAnswers words (source_of F.holds F.faults F.taken files.old files.new)
-        (streams_of I.took I.faults I.moments O.told O.faults T.told T.faults streams)
-        (S.told sink.old) (S.faults sink.old) result.0 (S.told sink.new) (S.faults sink.new)
-        (left_of I.took I.faults I.moments O.told O.faults T.told T.faults result.1) }
-{
-    match words {
-        Ok(words) => varan_over(rt, alloc, &words, files, sink, gate, streams),
-        Err(fault) => {
-            let status = refuse_words(sink, fault);
-            (status, (streams, Ending::Finished))
-        }
-    }
-}
 
 // Writes what is still held back, and answers the status to end with. Once a write has failed nothing more is written.
 fn finish<S: Sink>(sink: Gathering<S>, status: u8) -> (S, u8)
@@ -98,7 +65,15 @@ pub fn program<
 {
     // A report is put in some twenty small pieces an event: the sink gets them gathered.
     let mut sink = Gathering::make(sink);
-    let (status, left) = answer(rt, alloc, words, files, &mut sink, gate, streams);
+    let words = match words {
+        Ok(words) => words,
+        Err(fault) => {
+            let status = refuse_words(&mut sink, fault);
+            let (sink, status) = finish(sink, status);
+            return (sink, status, (streams, Ending::Finished));
+        }
+    };
+    let (status, left) = answer(rt, alloc, &words, files, &mut sink, gate, streams);
     let (sink, status) = finish(sink, status);
     let code = exit_status(status, &left);
     (sink, code, left)

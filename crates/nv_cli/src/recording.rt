@@ -1,7 +1,7 @@
 // A run that is recorded.
 ghost use Rattle.std.specs.Prelude.{◌≡◌, ◌≤◌, [], List, ℕ, Some, length, map, option_map};
-ghost use Rattle.nv_command.specs.Seen.{limits_view, plan_view};
-ghost use Rattle.nv_command.specs.Words.{Records, command_of};
+ghost use Rattle.nv_driver.specs.Seen.{limits_view, plan_view};
+ghost use Rattle.nv_driver.specs.Words.{Records, command_of};
 ghost use Rattle.nv_machine.specs.Guest.{Machine};
 ghost use Rattle.nv_replay.specs.Account.{AreFresh};
 ghost use Rattle.nv_replay.specs.Version.{standing_of, process_of};
@@ -17,8 +17,7 @@ use crate::beside::run;
 use nv_arriving::ScriptedKernel;
 use nv_bpf::Filter;
 use nv_calls::{Recorded, SyscallKernel};
-use nv_command::{Limits, Run};
-use nv_driver::{MEMORY, Prepared, ended, prepare, put_line, refuse, starved, status};
+use nv_driver::{Limits, MEMORY, Prepared, Run, ended, prepare, put_line, refuse, starved, status};
 use nv_outside::{Files, Sink};
 use nv_replay::{Account, Version};
 use nv_workers::Gate;

@@ -1,27 +1,23 @@
 // A live run.
-ghost use Rattle.std.specs.Prelude.{◌≡◌, ◌≤◌, [], List, ℕ, Some, IsTrue, IfOk, IfErr, length, option_map};
-ghost use Rattle.nv_command.specs.Seen.{limits_view, service_view};
-ghost use Rattle.nv_command.specs.Words.{Serves, command_of};
-ghost use Rattle.nv_replay.specs.Account.{AreFresh};
+ghost use Rattle.std.specs.Prelude.{◌≡◌, List, ℕ, Some, IsTrue, IfOk, IfErr};
+ghost use Rattle.nv_driver.specs.Seen.{service_view};
+ghost use Rattle.nv_driver.specs.Words.{Serves, command_of};
 ghost use Rattle.nv_script.specs.Scripts.{is_script};
 ghost use Rattle.nv_script.specs.Views.{setup_of};
-ghost use Rattle.nv_threads.specs.Threads.{threads};
 ghost use Rattle.nv_driver.specs.Due.{AnswersOver, Says};
 ghost use Rattle.nv_cli.specs.Streams.{streams_of, left_of};
 ghost use Rattle.nv_driver.specs.Outcome.{NoMemory, source_of, text_of};
-ghost use Rattle.nv_cli.specs.inner.Serving.{IsBegunOver, IsUnused, IsReadyToServe, HasLeft, RanOver, ServeSays};
+ghost use Rattle.nv_cli.specs.inner.Serving.{IsBegunOver, IsUnused, HasLeft};
 
 use crate::beside::run_on_demand;
 use nv_arriving::{ArrivingKernel, arriving, into_outside};
-use nv_bpf::Filter;
-use nv_command::{Limits, Service};
 use nv_driver::{
-    Ending, LivePrepared, MEMORY, how_ended, prepare_live, put_line, refuse_live, status,
+    Ending, LivePrepared, MEMORY, Service, how_ended, prepare_live, put_line, refuse_live, status,
 };
-use nv_live::{LiveRun, ReadBeside, Streams, Telling};
+use nv_live::{LiveRun, ReadBeside, Streams};
 use nv_outside::{Files, Sink};
-use nv_replay::{Account, Version};
-use nv_script::{Outside, Script};
+use nv_replay::Account;
+use nv_script::Script;
 use nv_workers::Gate;
 use std::alloc::Global;
 use std::sync::Wait;
@@ -72,83 +68,6 @@ fn left_by<I: ReadBeside<O, T>, O: Sink + Drop, T: Sink + Drop>(
     (live.finish(), ending)
 }
 
-// Runs the versions over what comes from an outside, whose lines of clients may ask the leader to hand over.
-fn run_over<R: Threads + Wait + Sync, G: Gate + Sync, X: Outside + Telling + Send>(
-    rt: &R,
-    alloc: Global,
-    kernel: ArrivingKernel<X>,
-    rules: Option<&Filter>,
-    versions: Vec<Version>,
-    hands: &Vec<u32>,
-    limits: Limits,
-    clients: bool,
-    gate: &G,
-) -> Result<Account<ArrivingKernel<X>>, ArrivingKernel<X>>
-    requires fresh { AreFresh threads 0 versions.items }
-    requires few { length versions.items ≤ 8 }
-    requires empty { kernel.log ≡ [] }
-    requires hands { length hands.now.items ≤ 8 }
-    ensures same { IfErr result (λ given. given ≡ kernel) }
-    ensures ran { IfOk result (λ r. RanOver X.told clients kernel (option_map (λ f. f.now) rules.entry) limits.calls hands.now.items versions.items r) }
-{
-    run_on_demand(
-        rt, alloc, versions, rules, kernel, gate, limits, hands, clients,
-    )
-}
-
-// Runs the versions over what comes by these streams, and gives back what is left of them.
-fn serve_versions<
-    R: Threads + Wait + Sync,
-    S: Sink,
-    G: Gate + Sync,
-    I: ReadBeside<O, T> + Send,
-    O: Sink + Drop + Send,
-    T: Sink + Drop + Send,
->(
-    rt: &R,
-    alloc: Global,
-    prepared: LivePrepared,
-    clients: bool,
-    streams: Streams<I, O, T>,
-    limits: Limits,
-    sink: &mut S,
-    gate: &G,
-) -> (u8, Left<I, O, T>)
-    requires ready { IsReadyToServe prepared }
-    ensures { ServeSays (limits_view limits) clients prepared (streams_of I.took I.faults I.moments O.told O.faults T.told T.faults streams)
-        (S.told sink.old) (S.faults sink.old) result.0 (S.told sink.new) (S.faults sink.new) (left_of I.took I.faults I.moments O.told O.faults T.told T.faults result.1) }
-{
-    let LivePrepared {
-        head,
-        script,
-        rules,
-        versions,
-    } = prepared;
-    let kernel = match kernel_over(alloc, &script, clients, &head, streams) {
-        Ok(kernel) => kernel,
-        Err(streams) => return starve(sink, streams),
-    };
-    let ran = run_over(
-        rt,
-        alloc,
-        kernel,
-        rules.as_ref(),
-        versions,
-        &script.hands,
-        limits,
-        clients,
-        gate,
-    );
-    match ran {
-        Ok(account) => {
-            let Account { kernel, versions } = account;
-            let left = left_by(into_outside(kernel));
-            (status(&versions), left)
-        }
-        Err(kernel) => starve(sink, into_outside(kernel).finish()),
-    }
-}
-
 /// Runs the versions of a service over what comes by these streams.
 pub fn serve<
     R: Threads + Wait + Sync,
@@ -173,20 +92,39 @@ pub fn serve<
         (S.told sink.old) (S.faults sink.old) result.0 (S.told sink.new) (S.faults sink.new)
         (left_of I.took I.faults I.moments O.told O.faults T.told T.faults result.1) }
 {
-    match prepare_live(alloc, files, service) {
-        Ok(prepared) => serve_versions(
-            rt,
-            alloc,
-            prepared,
-            service.clients,
-            streams,
-            service.limits,
-            sink,
-            gate,
-        ),
+    let LivePrepared {
+        head,
+        script,
+        rules,
+        versions,
+    } = match prepare_live(alloc, files, service) {
+        Ok(prepared) => prepared,
         Err(refusal) => {
             let status = refuse_live(alloc, sink, refusal, service);
-            (status, (streams, Ending::Finished))
+            return (status, (streams, Ending::Finished));
         }
+    };
+    let kernel = match kernel_over(alloc, &script, service.clients, &head, streams) {
+        Ok(kernel) => kernel,
+        Err(streams) => return starve(sink, streams),
+    };
+    let ran = run_on_demand(
+        rt,
+        alloc,
+        versions,
+        rules.as_ref(),
+        kernel,
+        gate,
+        service.limits,
+        &script.hands,
+        service.clients,
+    );
+    match ran {
+        Ok(account) => {
+            let Account { kernel, versions } = account;
+            let left = left_by(into_outside(kernel));
+            (status(&versions), left)
+        }
+        Err(kernel) => starve(sink, into_outside(kernel).finish()),
     }
 }

@@ -5,8 +5,8 @@ ghost use Rattle.nv_threads.specs.Threads.{threads};
 ghost use Rattle.nv_replay.specs.Version.{standing_of, process_of};
 ghost use Rattle.nv_replay.specs.Account.{AreFresh};
 ghost use Rattle.nv_driver.specs.Account.{process_begun, run_status};
-ghost use Rattle.nv_command.specs.Words.{Runs, Uses, command_of, texts};
-ghost use Rattle.nv_command.specs.Seen.{limits_view, plan_view};
+ghost use Rattle.nv_driver.specs.Words.{Runs, Uses, command_of, texts};
+ghost use Rattle.nv_driver.specs.Seen.{limits_view, plan_view};
 ghost use Rattle.nv_calls.specs.Logs.{output_of, connections_of};
 ghost use Rattle.nv_report.specs.Report.{report_text};
 ghost use Rattle.nv_report.specs.Json.{json_text};
@@ -30,10 +30,9 @@ use crate::serving::{Left, serve};
 use nv_arriving::{ScriptedKernel, connections};
 use nv_bpf::Filter;
 use nv_calls::{Recorded, SyscallKernel};
-use nv_command::{Command, Limits, Run};
 use nv_driver::{
-    Ending, MEMORY, Prepared, Task, answer_alone, count_exited, ended, generate, prepare, put_line,
-    refuse, refuse_words, starved, status,
+    Command, Ending, Limits, MEMORY, Prepared, Run, Task, answer_alone, count_exited, ended,
+    generate, prepare, put_line, refuse, refuse_words, starved, status,
 };
 use nv_gen::Totals;
 use nv_live::{ReadBeside, Streams};
@@ -244,8 +243,8 @@ fn left_alone<I, O, T>(status: u8, streams: Streams<I, O, T>) -> (u8, Left<I, O,
     (status, (streams, Ending::Finished))
 }
 
-// Does what the words ask for, and says what it came to. Only a live run takes the streams.
-fn answer<
+/// Does what the words ask for, and says what it came to. Only a live run takes the streams.
+pub(crate) fn answer<
     R: Threads + Wait + Sync,
     F: Files,
     S: Sink,
@@ -267,7 +266,7 @@ fn answer<
         (S.told sink.old) (S.faults sink.old) result.0 (S.told sink.new) (S.faults sink.new)
         (left_of I.took I.faults I.moments O.told O.faults T.told T.faults result.1) }
 {
-    match nv_command::read(alloc, words) {
+    match nv_driver::read(alloc, words) {
         Ok(Command::Serve(service)) => serve(rt, alloc, files, sink, gate, &service, streams),
         Ok(Command::Run(plan)) => left_alone(do_run(rt, alloc, files, sink, gate, &plan), streams),
         Ok(Command::Record(plan)) => left_alone(

@@ -28,10 +28,10 @@ use Rattle.nv_driver.specs.Traced as lack
 use Rattle.nv_driver.specs.inner.Trails.{TrailRefused, refused_outcome}
 use Rattle.nv_driver.specs.declared.refusal.Refusal.{Refusal}
 use Rattle.nv_driver.specs.declared.refusal.Refusal.TheVariants.{Memory, Unreadable as Unread, Input}
-use Rattle.nv_command.specs.Words.{Name, Plan, Service, Job, Trail, Command, Runs, Serves, Uses, Generates, Records, Replays, Inspects, Helps, asked_by, after_program, command_of, command_name}
-use Rattle.nv_command.specs.Seen.{WordsRefused}
-use Rattle.nv_command.specs.declared.asked.LineFault.{LineFault}
-use Rattle.nv_command.specs.declared.asked.LineFault.TheVariants as line
+use Rattle.nv_driver.specs.Words.{Name, Plan, Service, Job, Trail, Command, Runs, Serves, Uses, Generates, Records, Replays, Inspects, Helps, asked_by, after_program, command_of, command_name}
+use Rattle.nv_driver.specs.Seen.{WordsRefused}
+use Rattle.nv_driver.specs.declared.asked.LineFault.{LineFault}
+use Rattle.nv_driver.specs.declared.asked.LineFault.TheVariants as line
 use Rattle.nv_driver.specs.inner.Summing.{SumsUp}
 use Rattle.nv_driver.specs.Tasks.{fault_outcome}
 

@@ -6,7 +6,7 @@ use Rattle.nv_bpf.specs.declared.op.Op.{Op}
 use Rattle.nv_bpf.specs.declared.op.FilterFault.{FilterFault}
 use Rattle.nv_bpf.specs.Texts.{filter_of}
 use Rattle.nv_machine.specs.Guest.{Machine}
-use Rattle.nv_command.specs.Words.{Limits, Plan, Service}
+use Rattle.nv_driver.specs.Words.{Limits, Plan, Service}
 use Rattle.nv_script.specs.Scripts.{Setup, script_of}
 use Rattle.nv_script.specs.declared.fault.ScriptFault.{ScriptFault}
 use Rattle.nv_driver.specs.Found.{Found, Whole, TooLong, Unread, Finds, Agrees, AgreesIf, AllAgree, AreFound, AgreesWithin, FILE_LIMIT, script_limit, is_longer, found_whole, found_within, found_of, finds_of}

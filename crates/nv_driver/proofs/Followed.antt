@@ -4,7 +4,7 @@ use Rattle.nv_outside.specs.Told.{Told}
 use Rattle.nv_bpf.specs.declared.op.Op.{Op}
 use Rattle.nv_calls.specs.Calls.{Entry}
 use Rattle.nv_machine.specs.Guest.{Machine}
-use Rattle.nv_command.specs.Words.{Trail}
+use Rattle.nv_driver.specs.Words.{Trail}
 use Rattle.nv_script.specs.Scripts.{Setup}
 use Rattle.nv_driver.specs.Found.{Found, Unread, AgreesIf, AgreesWithin, FILE_LIMIT, TRACE_LIMIT, script_limit, found_of, found_within}
 use Rattle.nv_driver.specs.Traced.{Traced, TraceFinds, AreTraceFound, Lack, Unreadable, Refused, then_with, script_at, rules_at, log_at, machine_traced, after_log, after_filter, after_setup, traced, trace_finds_of}

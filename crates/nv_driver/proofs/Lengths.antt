@@ -4,7 +4,7 @@ use Rattle.nv_bpf.specs.declared.op.Op.{Op}
 use Rattle.nv_bpf.specs.declared.op.FilterFault.{FilterFault}
 use Rattle.nv_bpf.specs.Texts.{filter_of}
 use Rattle.nv_machine.specs.Guest.{Machine}
-use Rattle.nv_command.specs.Words.{Limits}
+use Rattle.nv_driver.specs.Words.{Limits}
 use Rattle.nv_script.specs.Scripts.{Setup}
 use Rattle.nv_driver.specs.Found.{Found, Whole, TooLong, Unread, TookMore}
 use Rattle.nv_driver.specs.Prepared.{Prepared, Unreadable, Refused, Ready, VersionOf, Faulty, Loads, read_at, with_first_machine, version_then, versions_from, version_from, judged_by, rules_then, after_rules}

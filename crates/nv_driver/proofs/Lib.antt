@@ -1,3 +1,7 @@
+pub mod Apps
+mod Matches
+mod Lines
+pub mod Within
 pub mod Lengths
 pub mod Loading
 pub mod LiveLoading

@@ -3,7 +3,7 @@ use Rattle.std.proofs.Common.{◌≡◌, ◌∙◌, sym, ap, subst, refl, ℕ, �
 use Rattle.std.proofs.lemmas.Bool.Decides.{nat_tests}
 use Rattle.nv_outside.specs.Told.{Told}
 use Rattle.nv_script.specs.Arrivals.{Arrival}
-use Rattle.nv_command.specs.Words.{Service}
+use Rattle.nv_driver.specs.Words.{Service}
 use Rattle.nv_script.specs.Scripts.{Setup, script_of}
 use Rattle.nv_script.specs.Transcripts.{IsTranscript}
 use Rattle.nv_script.specs.declared.fault.ScriptFault.{ScriptFault}

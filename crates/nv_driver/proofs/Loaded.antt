@@ -13,7 +13,7 @@ use Rattle.nv_gen.specs.Versions.{program_at, FitsTheDefault}
 use Rattle.nv_gen.proofs.Listing.{programs_listed, programs_counted}
 use Rattle.nv_machine.specs.Guest.{Machine}
 use Rattle.nv_bpf.specs.declared.op.Op.{Op}
-use Rattle.nv_command.specs.Words.{Limits, usual}
+use Rattle.nv_driver.specs.Words.{Limits, usual}
 use Rattle.nv_script.specs.Scripts.{Setup}
 use Rattle.nv_threads.specs.Threads.{Proc}
 use Rattle.nv_replay.specs.Lead.{is_memory}

@@ -24,7 +24,7 @@ use Rattle.nv_driver.specs.declared.refusal.Place.TheVariants.{Script, Rules, Tr
 use Rattle.nv_driver.specs.declared.refusal.Cause.{Cause}
 use Rattle.nv_driver.specs.declared.refusal.Cause.TheVariants as causes
 use Rattle.nv_script.specs.Scripts.{Setup, script_of}
-use Rattle.nv_command.specs.Words.{Limits, Parts, Plan}
+use Rattle.nv_driver.specs.Words.{Limits, Parts, Plan}
 
 pub fresh_more : {P : Type 0} (g : Behaviour P) (i n : ℕ) (rs : List (Running P)) (r : Running P) → AreFresh g i rs → n ≡ i + length rs → IsFresh g n r → AreFresh g i (rs ++ r ∷ [])
 fresh_more g i n [] r all e h = (subst (λ (z : ℕ). IsFresh g z r) (omega (arith, e)) h, tt)

@@ -10,7 +10,7 @@ use Rattle.nv_outside.specs.declared.files.Got.TheVariants.{Bytes}
 use Rattle.nv_driver.specs.Found.{Whole, IsReadOf, TookLong}
 use Rattle.nv_driver.specs.Made.{used, unless_refused}
 use Rattle.nv_driver.specs.inner.Unmade.{IsMadeOf, IsUnmade, IsReasonFor}
-use Rattle.nv_command.specs.declared.asked.Tool.{Tool}
+use Rattle.nv_driver.specs.declared.asked.Tool.{Tool}
 use Rattle.nv_driver.specs.declared.refusal.Cause.{Cause}
 use Rattle.nv_driver.specs.declared.refusal.Cause.TheVariants.{Long}
 use Rattle.nv_driver.specs.declared.tools.Unmade.{Unmade}

@@ -3,7 +3,7 @@ use Rattle.std.specs.Prelude.{◌≡◌, ℕ, Bool, false, List, [], Option, map
 use Rattle.std.specs.List.{list_any}
 use Rattle.nv_bpf.specs.declared.op.Op.{Op}
 use Rattle.nv_machine.specs.Guest.{Machine}
-use Rattle.nv_command.specs.Words.{Limits}
+use Rattle.nv_driver.specs.Words.{Limits}
 use Rattle.nv_script.specs.Scripts.{Setup}
 use Rattle.nv_arriving.specs.Scripted.{start_from}
 use Rattle.nv_threads.specs.Threads.{Proc, threads, started}

@@ -4,7 +4,7 @@ use Rattle.std.specs.List.{list_any}
 use Rattle.nv_outside.specs.Counts.{Rose}
 use Rattle.nv_outside.specs.Told.{Told}
 use Rattle.nv_outside.specs.Sink.{Put, Puts}
-use Rattle.nv_command.specs.Words.{Plan, Service, Job, Trail, Look, Command, Runs, Serves, Uses, Generates, Records, Replays, Inspects, Helps, usual, command_of, command_name}
+use Rattle.nv_driver.specs.Words.{Plan, Service, Job, Trail, Look, Command, Runs, Serves, Uses, Generates, Records, Replays, Inspects, Helps, usual, command_of, command_name}
 use Rattle.nv_bpf.specs.declared.op.Op.{Op}
 use Rattle.nv_machine.specs.Guest.{Machine}
 use Rattle.nv_script.specs.Scripts.{Setup}

@@ -1,7 +1,7 @@
 -- What a command finds where it reads its files.
 use Rattle.std.specs.Prelude.{◌≡◌, ◌≢◌, ◌≤◌, ◌+◌, ◌-◌, ◌^◌, ℕ, List, [], ◌∷◌, Bool, true, if◌then◌else◌, Option, None, Some, option_map, min, nat_lt, length, map}
 use Rattle.nv_outside.specs.Told.{Told, Untold, Missing, Content, Fallible, told_content, MayFail}
-use Rattle.nv_command.specs.Words.{ScriptFile, Plan}
+use Rattle.nv_driver.specs.Words.{ScriptFile, Plan}
 
 -- the most bytes of a file
 abbrev pub FILE_LIMIT : ℕ

@@ -7,7 +7,7 @@ use Rattle.nv_elf.specs.Elf.{Accepted}
 use Rattle.nv_gen.specs.Made.{script, rules}
 use Rattle.nv_gen.specs.Programs.{programs}
 use Rattle.nv_machine.specs.Guest.{Machine}
-use Rattle.nv_command.specs.Words.{usual}
+use Rattle.nv_driver.specs.Words.{usual}
 use Rattle.nv_script.specs.Scripts.{Setup, script_of}
 use Rattle.nv_threads.specs.Threads.{Proc, threads}
 use Rattle.nv_replay.specs.Version.{Running, process_of}

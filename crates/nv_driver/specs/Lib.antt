@@ -1,3 +1,9 @@
+pub mod Faults
+pub mod Simple
+pub mod Words
+pub mod Tables
+pub mod Seen
+pub mod Help
 pub mod Found
 pub mod Prepared
 pub mod Traced

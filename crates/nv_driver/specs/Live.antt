@@ -8,7 +8,7 @@ use Rattle.nv_arriving.specs.Doings.{doings}
 use Rattle.nv_arriving.specs.Telling.{taken_before, are_at_most}
 use Rattle.nv_calls.specs.Calls.{Entry}
 use Rattle.nv_calls.specs.Logs.{calls_of}
-use Rattle.nv_command.specs.Words.{Limits, Service}
+use Rattle.nv_driver.specs.Words.{Limits, Service}
 use Rattle.nv_live.specs.Lines.{held_text}
 use Rattle.nv_live.specs.Live.{stop_with}
 use Rattle.nv_live.specs.Run.{CameBy, said_text}

@@ -11,8 +11,8 @@ use Rattle.nv_elf.specs.Written.{elf_bytes}
 use Rattle.nv_asm.specs.declared.fault.AsmFault.{AsmFault}
 use Rattle.nv_asm.specs.Assembled as asm
 use Rattle.nv_driver.specs.Found.{Found, Whole, TooLong, Unread}
-use Rattle.nv_command.specs.declared.asked.Tool.{Tool}
-use Rattle.nv_command.specs.declared.asked.Tool.TheVariants.{CheckRules, AssembleRules, Assemble}
+use Rattle.nv_driver.specs.declared.asked.Tool.{Tool}
+use Rattle.nv_driver.specs.declared.asked.Tool.TheVariants.{CheckRules, AssembleRules, Assemble}
 use Rattle.nv_driver.specs.declared.refusal.Cause.{Cause}
 use Rattle.nv_driver.specs.declared.refusal.Cause.TheVariants.{Long, Filter, Rules, Asm}
 use Rattle.nv_driver.specs.declared.tools.Unmade.{Unmade}

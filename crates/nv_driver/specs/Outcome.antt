@@ -4,8 +4,8 @@ use Rattle.std.specs.List.{concat}
 use Rattle.nv_gen.specs.Made as gen
 use Rattle.nv_outside.specs.Told.{Told}
 use Rattle.nv_outside.specs.Sink.{Put}
-use Rattle.nv_command.specs.Help.{help_of}
-use Rattle.nv_command.specs.Words.{Name, Plan, Service, Trail}
+use Rattle.nv_driver.specs.Help.{help_of}
+use Rattle.nv_driver.specs.Words.{Name, Plan, Service, Trail}
 use Rattle.nv_calls.specs.Logs.{output_of, connections_of}
 use Rattle.nv_script.specs.Scripts.{Setup}
 use Rattle.nv_arriving.specs.Scripted.{start_from}

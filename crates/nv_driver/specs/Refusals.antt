@@ -2,7 +2,7 @@
 use Rattle.std.specs.Prelude.{◌≡◌, ◌≤◌, ℕ, List, [], Option, length, map}
 use Rattle.nv_outside.specs.Counts.{Rose}
 use Rattle.nv_outside.specs.Told.{Told}
-use Rattle.nv_command.specs.Words.{Plan, Service}
+use Rattle.nv_driver.specs.Words.{Plan, Service}
 use Rattle.nv_calls.specs.Calls.{Entry}
 use Rattle.nv_script.specs.Scripts.{Setup}
 use Rattle.nv_script.specs.Transcripts.{IsTranscript}

@@ -1,10 +1,10 @@
 -- What the words ask for of a task.
 use Rattle.std.specs.Prelude.{◌≡◌, ℕ, List, Some, option_map}
-use Rattle.nv_command.specs.Words.{Uses, Replays, Inspects, Helps, command_of}
-use Rattle.nv_command.specs.Seen.{WordsRefused, job_view, trail_view, look_view}
-use Rattle.nv_command.specs.Tables.{name_view}
-use Rattle.nv_command.specs.declared.asked.LineFault.{LineFault}
-use Rattle.nv_command.specs.declared.asked.LineFault.TheVariants as line
+use Rattle.nv_driver.specs.Words.{Uses, Replays, Inspects, Helps, command_of}
+use Rattle.nv_driver.specs.Seen.{WordsRefused, job_view, trail_view, look_view}
+use Rattle.nv_driver.specs.Tables.{name_view}
+use Rattle.nv_driver.specs.declared.asked.LineFault.{LineFault}
+use Rattle.nv_driver.specs.declared.asked.LineFault.TheVariants as line
 use Rattle.nv_driver.specs.Outcome.{Outcome, Usage, NoMemory}
 use Rattle.nv_driver.specs.declared.task.Task.{Task}
 use Rattle.nv_driver.specs.declared.task.Task.TheVariants.{Refuse, Use, Replay, Inspect, Help}

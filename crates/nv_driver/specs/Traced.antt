@@ -6,7 +6,7 @@ use Rattle.nv_bpf.specs.declared.op.FilterFault.{FilterFault}
 use Rattle.nv_bpf.specs.Texts.{filter_of}
 use Rattle.nv_calls.specs.Calls.{Entry}
 use Rattle.nv_machine.specs.Guest.{Machine}
-use Rattle.nv_command.specs.Words.{Limits, Trail, usual}
+use Rattle.nv_driver.specs.Words.{Limits, Trail, usual}
 use Rattle.nv_script.specs.Scripts.{Setup, script_of}
 use Rattle.nv_script.specs.declared.fault.ScriptFault.{ScriptFault}
 use Rattle.nv_arriving.specs.Scripted.{start_from}

@@ -1,5 +1,5 @@
 -- A point of a trace, as the words say it.
-use Rattle.nv_command.specs.Words.{Point, AtStamp, AtCall, AtCount}
+use Rattle.nv_driver.specs.Words.{Point, AtStamp, AtCall, AtCount}
 use Rattle.nv_inspect.specs.declared.points.TracePoint.{TracePoint}
 use Rattle.nv_inspect.specs.declared.points.TracePoint.TheVariants.{Stamp, Call, Count}
 

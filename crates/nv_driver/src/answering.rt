@@ -1,18 +1,20 @@
 // The commands that need no other threads.
 ghost use Rattle.std.specs.Prelude.{◌≡◌, List, ℕ, Some, option_map};
-ghost use Rattle.nv_command.specs.Tables.{name_view};
-ghost use Rattle.nv_command.specs.Words.{Uses, command_of};
+ghost use Rattle.nv_driver.specs.Tables.{name_view};
+ghost use Rattle.nv_driver.specs.Words.{Uses, command_of};
 ghost use Rattle.nv_driver.specs.Due.{Answers, Says};
 ghost use Rattle.nv_driver.specs.Outcome.{Helped, source_of, outcome_status, text_of};
 ghost use Rattle.nv_driver.specs.Tasks.{IsTaskOf, fault_outcome};
 
+use crate::asked::{LineFault, Tool};
 use crate::endings::{MEMORY, USAGE, ended, put_line};
+use crate::help::help_text;
 use crate::inspecting::inspect;
+use crate::names::Name;
 use crate::refusing::{put_input, put_unread};
 use crate::replaying::replay;
 use crate::task::Task;
 use crate::tools::{Unmade, make};
-use nv_command::{LineFault, Name, Tool, help_text};
 use nv_outside::{Files, Sink, put_pieces};
 use std::alloc::Global;
 

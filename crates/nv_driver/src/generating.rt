@@ -12,11 +12,11 @@ ghost use Rattle.nv_driver.specs.inner.Generated.{IsFrom, AreFrom, Runs};
 ghost use Rattle.nv_driver.specs.Refusals.{IsPlanned};
 ghost use Rattle.nv_driver.specs.declared.refusal.Refusal.TheVariants.{Memory};
 
+use crate::limits::Limits;
 use crate::preparing::{Prepared, filter_in, load, script_in, version};
 use crate::refusal::{Place, Refusal};
 use nv_arriving::ScriptedKernel;
 use nv_bpf::Filter;
-use nv_command::Limits;
 use nv_gen::{rules_are_read, script_is_read, versions_fit_the_default_memory};
 use nv_replay::Version;
 use nv_script::Script;

@@ -1,7 +1,7 @@
 // A version at a point of a trace, and what it shows there.
 ghost use Rattle.std.specs.Prelude.{◌≡◌, ◌≤◌, false, IsTrue, List, ℕ, Some, take, option_map};
-ghost use Rattle.nv_command.specs.Words.{Inspects, command_of};
-ghost use Rattle.nv_command.specs.Seen.{look_view, point_view};
+ghost use Rattle.nv_driver.specs.Words.{Inspects, command_of};
+ghost use Rattle.nv_driver.specs.Seen.{look_view, point_view};
 ghost use Rattle.nv_inspect.specs.Shown.{show_text, IsDump};
 ghost use Rattle.nv_replay.specs.Follow.{follow, fresh, judge_of};
 ghost use Rattle.nv_replay.specs.Version.{IsFresh};
@@ -16,11 +16,11 @@ ghost use Rattle.nv_driver.specs.Outcome.{source_of};
 ghost use Rattle.nv_driver.specs.Ran.{Wrote};
 ghost use Rattle.nv_driver.specs.Tracing.{trace_point};
 
+use crate::asked::{Look, Point};
 use crate::endings::{MEMORY, ended, put_line};
 use crate::refusing::refuse_trail;
 use crate::trails::{TracedVersion, trace_version};
 use nv_calls::SyscallKernel;
-use nv_command::Look;
 use nv_inspect::{TracePoint, bring, kernel_after, show};
 use nv_outside::{Files, Sink};
 use std::alloc::Global;
@@ -29,9 +29,9 @@ fn point(look: &Look<'_>) -> TracePoint
     ensures { result ≡ trace_point (point_view look.now.point) }
 {
     match look.point {
-        nv_command::Point::Stamp(stamp) => TracePoint::Stamp(stamp),
-        nv_command::Point::Call(number) => TracePoint::Call(number),
-        nv_command::Point::Count(count) => TracePoint::Count(count),
+        Point::Stamp(stamp) => TracePoint::Stamp(stamp),
+        Point::Call(number) => TracePoint::Call(number),
+        Point::Count(count) => TracePoint::Count(count),
     }
 }
 
@@ -41,7 +41,7 @@ fn budget(look: &Look<'_>) -> u32
     ensures few { result ≤ 1_000_000_000 }
 {
     match look.point {
-        nv_command::Point::Count(count) => count,
+        Point::Count(count) => count,
         _ => look.trail.budget,
     }
 }
@@ -51,7 +51,7 @@ fn renews(look: &Look<'_>) -> bool
     ensures { result ≡ renews_to (trace_point (point_view look.now.point)) look.now.trail.renews }
 {
     match look.point {
-        nv_command::Point::Count(_) => false,
+        Point::Count(_) => false,
         _ => look.trail.renews,
     }
 }

@@ -3,17 +3,17 @@ ghost use Rattle.std.specs.Prelude.{◌≡◌, ◌≤◌, ◌-◌, ◌==◌, not
 ghost use Rattle.std.specs.List.{prefix_len};
 ghost use Rattle.nv_script.specs.Scripts.{is_script};
 ghost use Rattle.nv_script.specs.Views.{setup_of};
-ghost use Rattle.nv_command.specs.Seen.{service_view};
+ghost use Rattle.nv_driver.specs.Seen.{service_view};
 ghost use Rattle.nv_driver.specs.Found.{Whole};
 ghost use Rattle.nv_driver.specs.Live.{AgreesOrBare, bare_text, after_first_line, transcript_head};
 ghost use Rattle.nv_driver.specs.Refusals.{IsLivePrepared, IsPlanned, RefusesLive, Stops};
 ghost use Rattle.nv_driver.specs.inner.Refusals.{IsLiveScript, IsLiveScriptRefusal, LiveScriptStops};
 
-use crate::limits::FILE_LIMIT;
+use crate::asked::Service;
+use crate::file_limits::FILE_LIMIT;
 use crate::preparing::{read_file, read_rest, script_in};
 use crate::refusal::{Cause, Place, Refusal};
 use nv_bpf::Filter;
-use nv_command::Service;
 use nv_outside::Files;
 use nv_replay::Version;
 use nv_script::Script;

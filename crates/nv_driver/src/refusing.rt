@@ -1,14 +1,14 @@
 // What says that a file is refused.
 ghost use Rattle.std.specs.Prelude.{◌≡◌};
-ghost use Rattle.nv_command.specs.Seen.{plan_view, service_view, trail_view};
+ghost use Rattle.nv_driver.specs.Seen.{plan_view, service_view, trail_view};
 ghost use Rattle.nv_driver.specs.Due.{Says};
 ghost use Rattle.nv_driver.specs.Outcome.{NotRead, name_at, name_in, name_on, outcome_of, live_outcome_of, refused_text, text_of};
 ghost use Rattle.nv_driver.specs.Ran.{Wrote, Tells};
 ghost use Rattle.nv_driver.specs.inner.Trails.{refused_outcome};
 
+use crate::asked::{Run, Service, Trail};
 use crate::endings::{INPUT, MEMORY, READ_FAULT, ended, put_line};
 use crate::refusal::{Cause, Place, Refusal};
-use nv_command::{Run, Service, Trail};
 use nv_outside::{Sink, put_pieces};
 use std::alloc::Global;
 

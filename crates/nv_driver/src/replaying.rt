@@ -1,7 +1,7 @@
 // A version that follows a whole trace, and the line that tells of it.
 ghost use Rattle.std.specs.Prelude.{◌≡◌, List, ℕ, Some, option_map};
-ghost use Rattle.nv_command.specs.Words.{Replays, command_of};
-ghost use Rattle.nv_command.specs.Seen.{trail_view};
+ghost use Rattle.nv_driver.specs.Words.{Replays, command_of};
+ghost use Rattle.nv_driver.specs.Seen.{trail_view};
 ghost use Rattle.nv_outside.specs.Sink.{Puts};
 ghost use Rattle.nv_replay.specs.Follow.{follow, fresh, judge_of};
 ghost use Rattle.nv_replay.specs.Version.{IsFresh};
@@ -10,11 +10,11 @@ ghost use Rattle.nv_driver.specs.Due.{Answers, Says};
 ghost use Rattle.nv_driver.specs.Outcome.{source_of};
 ghost use Rattle.nv_driver.specs.Replayed.{counts_text, replay_text, replay_status};
 
+use crate::asked::Trail;
 use crate::endings::ended;
 use crate::refusing::refuse_trail;
 use crate::trails::{TracedVersion, trace_version};
 use itoa::Buffer;
-use nv_command::Trail;
 use nv_inspect::{TracePoint, bring, put_end};
 use nv_outside::{Files, Put, Sink, put_all, put_pieces};
 use nv_replay::{Fate, Standing, Version};

@@ -1,5 +1,6 @@
 // What a line asks for that needs no other threads.
-use nv_command::{Job, LineFault, Look, Name, Trail};
+use crate::asked::{Job, LineFault, Look, Trail};
+use crate::names::Name;
 
 /// What a line asks for that needs no other threads, or why it asks for nothing.
 #[derive(Clone, Copy)]

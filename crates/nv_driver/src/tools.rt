@@ -7,13 +7,13 @@ ghost use Rattle.nv_bpf.specs.Texts.{filter_of};
 ghost use Rattle.nv_bpf_asm.specs.Assembled.{assembled};
 ghost use Rattle.nv_asm.specs.Assembled.{assembled as assembled_program};
 
-use crate::limits::FILE_LIMIT;
+use crate::asked::Tool;
+use crate::file_limits::FILE_LIMIT;
 use crate::refusal::Cause;
 use itoa::Buffer;
 use nv_asm::AsmFault;
 use nv_bpf::FilterFault;
 use nv_bpf_asm::RuleFault;
-use nv_command::Tool;
 use nv_outside::{Files, Got};
 use std::alloc::{AllocError, AllocFailed, Global};
 

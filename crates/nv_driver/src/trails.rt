@@ -1,6 +1,6 @@
 // How the files of a version that follows a trace are read.
 ghost use Rattle.std.specs.Prelude.{◌≡◌, ◌≤◌, List, ℕ, Ok, IsTrue, IfOk, IfErr, OnOk};
-ghost use Rattle.nv_command.specs.Seen.{limits_view, script_view, trail_view};
+ghost use Rattle.nv_driver.specs.Seen.{limits_view, script_view, trail_view};
 ghost use Rattle.nv_script.specs.Scripts.{is_script};
 ghost use Rattle.nv_script.specs.Views.{setup_of};
 ghost use Rattle.nv_arriving.specs.Scripted.{start_from};
@@ -9,12 +9,13 @@ ghost use Rattle.nv_driver.specs.Found.{FILE_LIMIT, TRACE_LIMIT, script_limit};
 ghost use Rattle.nv_driver.specs.Traced.{script_at, log_at, machine_traced, trace_of_file, trail_limits};
 ghost use Rattle.nv_driver.specs.inner.Trails.{Gives, StepRefused, IsTraceRefusal, TrailRefused, IsFollower, IsTraced};
 
-use crate::limits::{FILE_LIMIT, TRACE_LIMIT};
+use crate::asked::{ScriptFile, Trail};
+use crate::file_limits::{FILE_LIMIT, TRACE_LIMIT};
+use crate::limits::Limits;
 use crate::preparing::{load, read_file, read_rules, script_bytes, script_in, version};
 use crate::refusal::{Place, Refusal};
 use nv_arriving::ScriptedKernel;
 use nv_bpf::Filter;
-use nv_command::{Limits, ScriptFile, Trail};
 use nv_outside::Files;
 use nv_replay::Version;
 use nv_script::Script;

@@ -6,8 +6,7 @@ ghost use Rattle.nv_fs.specs.Starts.{first_state, first_descriptors, first_opens
 
 use crate::blocks::Blocks;
 use crate::open_file::{OpenFile, Target};
-use nv_calls::MOST_BYTES;
-use nv_past::Past;
+use nv_calls::{MOST_BYTES, Past};
 use std::alloc::{AllocError, Global};
 use std::marker::Model;
 

@@ -208,23 +208,6 @@ impl Devices {
         }
     }
 
-    fn answer_unless_bad(&mut self, syscall: Syscall, call: &Call, out: &mut Bytes) -> i32
-        requires syscall { syscall ≡ syscall_of call.now.nr }
-        requires ready { CanAnswer self.old.files (request call.now) }
-        requires capacity { MOST_BYTES ≤ out.old.capacity }
-        requires clones { (state_of self.old).crew.clones < MOST_EVENTS }
-        ensures answer { unless_bad (state_of self.old) (request call.now) ≡ record { state = state_of self.new; ret = result; payload = out.new.bytes } }
-        ensures capacity { out.new.capacity ≡ out.old.capacity }
-        ensures few { length out.new.bytes ≤ most_out (request call.now) }
-        ensures gone { self.new.files.gone ≡ self.old.files.gone }
-    {
-        out.set(&[]);
-        if call.bad {
-            return EFAULT;
-        }
-        self.answer_as(syscall, call, out)
-    }
-
     /// The result of a call, which is this one of the table, with the bytes that it hands out.
     #[tactic(auto, unfolding(crate::specs::Serving::serve))]
     pub fn answer(&mut self, syscall: Syscall, call: &Call, out: &mut Bytes) -> i32
@@ -238,7 +221,12 @@ impl Devices {
         ensures few { length out.new.bytes ≤ most_out (request call.now) }
         ensures gone { self.new.files.gone ≡ self.old.files.gone }
     {
-        let ret = self.answer_unless_bad(syscall, call, out);
+        out.set(&[]);
+        let ret = if call.bad {
+            EFAULT
+        } else {
+            self.answer_as(syscall, call, out)
+        };
         self.served += 1;
         ret
     }

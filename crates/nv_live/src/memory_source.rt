@@ -2,8 +2,8 @@
 ghost use Rattle.std.specs.Prelude.{◌≡◌, ◌≤◌, ◌++◌, [], Some, length, map, drop, vec_len};
 
 use crate::{Read, ReadBeside, Source};
+use nv_calls::Whole;
 use nv_outside::Sink;
-use nv_past::Whole;
 use std::snapshot::Snapshot;
 
 // How things stood when it was read: how many reads had given something and how many had failed, and both sinks as clauses see them.

@@ -1,0 +1,4 @@
+mod Orders
+mod Living
+pub mod Shaped
+pub mod Sending

@@ -1,0 +1,3 @@
+pub mod Going
+pub mod Backs
+pub mod Scripts

@@ -1,7 +1,7 @@
 ghost use Rattle.std.specs.Prelude.{◌<◌, ◌≤◌};
-ghost use Rattle.nv_room_harness.specs.Scripts.{AreCalls};
+ghost use Rattle.nv_room_tests.specs.Scripts.{AreCalls};
 
-use nv_room_harness::{
+use crate::{
     Script, change_leader, clone, exit_group, getuid, hand_over, kernel, of_thread, run, write,
 };
 use std::alloc::Global;

@@ -1,1 +1,2 @@
 mod Sending
+pub mod Starting

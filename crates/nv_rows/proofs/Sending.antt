@@ -4,7 +4,7 @@ use denote.RattleType.{RattleType}
 use denote.Struct.Declared.{shape}
 use Rattle.std.proofs.Crossing.{crosses}
 use Rattle.std.specs.contracts.snapshot.Snapshot as Snapshot
-use Rattle.nv_past.proofs.whole.Whole.TheSendSync.{the_send as whole_send}
+use Rattle.nv_calls.proofs.whole.Whole.TheSendSync.{the_send as whole_send}
 use Rattle.nv_live.specs.contracts.memory_source.Seen as Seen
 use Rattle.nv_live.specs.contracts.memory_source.MemorySource as MemorySource
 

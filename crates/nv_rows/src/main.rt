@@ -1,6 +1,9 @@
-//! Runs the rows of data/ through the top call (crates/nv_rows/data/README.md), and says which of them come out otherwise.
+//! Runs the rows of data/ through the top call (crates/nv_rows/data/README.md), and says which of them come out otherwise; or runs what scripts of bench/ time.
+//! The first word names which: rows, machine, threads, rules, sequence or ring; without words it is the rows, and a small run of each of the others.
 //! Types: `Entry` and `Field` (the lines of a file), `Reader` (makes rows of entries), `Row` with its `RowFile`, `Change`, `Kind` and `Wanted`, `RowFault` (why
 //! an entry isn't read), `Outside` and `Answered` (what a call finds, and what comes of it), `Tally` (how many rows came out otherwise).
+//! Modules that are timed: `machine` (instructions alone), `threads` (a process), `rules` (a filter's values), `sequence` with `output` (a version by the plain
+//! monitor), `ring` with `room` and `queue` (events through a room, words through rtrb). Each says what it takes, and which script takes the time.
 //! Proved: that nothing undefined is done; what is read is shown by the rows. The gate compares what it prints with the file `stdout`.
 #![tactic(auto)]
 
@@ -9,15 +12,25 @@ mod content;
 mod draft;
 mod entry;
 mod fault;
+mod machine;
 mod meeting;
+mod output;
+mod queue;
 mod reader;
+mod ring;
+mod room;
 mod row;
+mod rules;
 mod run;
+mod sequence;
 mod shape;
 mod tally;
 mod texts;
+mod threads;
+mod timed;
 mod versions;
 
+use anyhow::Result;
 use entry::entries;
 use reader::Reader;
 use row::Row;
@@ -25,7 +38,7 @@ use std::io::Print;
 use std::rt::Files;
 use std::sync::Wait;
 use std::thread::Threads;
-use std::{fs, io};
+use std::{env, fs, io};
 use tally::Tally;
 
 // The files with rows, by what they are about. One may include the texts of those before it.
@@ -65,11 +78,36 @@ const SUBJECTS: [&str; 33] = [
     "polls",
 ];
 
-fn main(rt: HostRuntime) -> io::Result<()> {
+fn main(rt: HostRuntime) -> Result<()> {
+    let words: Vec<String> = env::args(&rt)?.collect(rt.alloc())?;
+    match words.as_slice() {
+        [_, name, words @ ..] => run_named(&rt, name, words),
+        _ => run_each(&rt),
+    }
+}
+
+fn run_named<R: Files + Print + AllocGlobal + Threads + Wait + Sync>(
+    rt: &R,
+    name: &str,
+    words: &[String],
+) -> Result<()> {
+    if name == "rows" {
+        run_subjects(rt)?;
+        return Ok(());
+    }
+    timed::run_named(rt, name, words)
+}
+
+fn run_each<R: Files + Print + AllocGlobal + Threads + Wait + Sync>(rt: &R) -> Result<()> {
+    run_subjects(rt)?;
+    timed::run_each(rt)
+}
+
+fn run_subjects<R: Files + Print + AllocGlobal + Threads + Wait + Sync>(rt: &R) -> io::Result<()> {
     let mut reader = Reader::new(rt.alloc());
     let mut tally = Tally::new();
     for subject in SUBJECTS {
-        run_subject(&rt, subject, &mut reader, &mut tally)?;
+        run_subject(rt, subject, &mut reader, &mut tally)?;
     }
     println!(rt; "{tally}")
 }

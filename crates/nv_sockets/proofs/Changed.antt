@@ -3,7 +3,7 @@ use Rattle.std.proofs.Common.{◌≡◌, ◌≢◌, ◌∙◌, sym, ap, subst, r
 use Rattle.std.specs.Prelude.{slice_index, slice_set, if◌then◌else◌}
 use Rattle.std.proofs.lemmas.Bool.{cases_eq}
 use Rattle.std.proofs.lemmas.List.{get_or-set_same, get_or-set_other, set-get_or}
-use Rattle.nv_past.specs.Known.{Known}
+use Rattle.nv_calls.specs.Known.{Known}
 use Rattle.nv_sockets.specs.declared.connection.Connection.{Connection}
 use Rattle.nv_sockets.specs.Sockets.{Inbox, Link, Net, link_at, is_going, link_output, unread_in, over_in, with_link, with_inbox, with_output}
 use Rattle.nv_sockets.specs.Inboxes.{Room, inbox_in, promised_in}

@@ -3,7 +3,7 @@ use Rattle.std.proofs.Common.{◌≡◌, ◌∙◌, sym, ap, subst, refl, ℕ, z
 use Rattle.std.specs.Prelude.{slice_index, slice_get, slice_set, IfNone}
 use Rattle.std.specs.Global.{Vec}
 use Rattle.std.proofs.lemmas.List.{map-set, set-set, map-append, length-map}
-use Rattle.nv_past.specs.Tables.{Sparse}
+use Rattle.nv_calls.specs.Tables.{Sparse}
 use Rattle.nv_sockets.specs.declared.connection.Connection.{Connection}
 use Rattle.nv_sockets.specs.declared.sockets.Sockets.TheInside.{Inside}
 use Rattle.nv_sockets.specs.Sockets.{Link, Net}

@@ -5,7 +5,7 @@ use Rattle.std.proofs.lemmas.Bool.{cases_lt}
 use Rattle.std.proofs.lemmas.Bool.Decides.{nat_tests}
 use Rattle.std.proofs.lemmas.List.Folds.{list_any-append, list_any_at}
 use Rattle.std.proofs.lemmas.List.Edits.{length-remove, get_or-remove_below, get_or-remove_above}
-use Rattle.nv_past.specs.Tables.{Ascends}
+use Rattle.nv_calls.specs.Tables.{Ascends}
 use Rattle.nv_sockets.specs.Reserved.{is_there}
 
 pub equal : (m n : ℕ) → m ≡ n → (m == n) ≡ true

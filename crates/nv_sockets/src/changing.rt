@@ -7,7 +7,7 @@ ghost use Rattle.nv_sockets.specs.Changes.{IsAt, IsLink, changed_at};
 
 use crate::connection::Connection;
 use crate::sockets::Sockets;
-use nv_past::Past;
+use nv_calls::Past;
 use std::alloc::Global;
 
 // What is in its place meanwhile.

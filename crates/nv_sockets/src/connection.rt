@@ -1,6 +1,6 @@
 // Connections.
 use crate::inbox::Inbox;
-use nv_past::Past;
+use nv_calls::Past;
 
 /// A connection of a client.
 #[derive(Drop)]

@@ -9,8 +9,8 @@ use crate::connection::Connection;
 use crate::inbox::Inbox;
 use crate::socket::Socket;
 use crate::waiting::Waiting;
+use nv_calls::{Past, Table};
 use nv_fs::DESCRIPTORS;
-use nv_past::{Past, Table};
 use std::alloc::{AllocError, Global};
 use std::marker::Model;
 

@@ -32,7 +32,7 @@ use Rattle.nv_workers.specs.Working.{Serves, HasEnded, LeadsOn}
 use Rattle.nv_workers.specs.Publishing.{event_of, IsPublished}
 use Rattle.nv_workers.specs.declared.follows.Next.{Next}
 use Rattle.nv_workers.specs.declared.follows.Next.TheVariants.{Moved, Ahead, Waits, Leads, Hands, Leaves, Left}
-use Rattle.nv_workers.specs.inner.Leads.{AfterLead, HasPublished, IsLate, HasSpare, IsNext}
+use Rattle.nv_workers.specs.inner.Leads.{AfterLead, HasCome, HasDropped, HasPublished, IsLate, HasSpare, IsNext}
 use Rattle.nv_workers.proofs.Spelt.{long_as}
 use Rattle.nv_workers.proofs.Spanned.{map_append}
 use Rattle.nv_workers.proofs.Keeping.{asking_on, leading, drops, refuses, publishes, serves_on, serves_to, planned_few}
@@ -200,6 +200,16 @@ module _ {judges : ℕ → Judge} {K : Type 0} {G : Ghosts K} {room : Room K} {m
     planned = λ e off. cc;
     serves = λ start legal. (record { before = v; serving = f.serves start legal; asking = k }, a);
   }
+
+-- what the version came to
+module _ {judges : ℕ → Judge} {K : Type 0} {G : Ghosts K} {room : Room K} {most : ℕ} {p : Proc} {v : Running Proc} {l : Lead K G} {asked : Option ℕ}
+    (f : LeadsOn judges room most p v false l asked) (v2 : Running Proc) where
+  pub come_lead : {t : ℕ} → HasCome most v v2 asked t → LeadsOn judges room most p v2 false l (Some t)
+  come_lead {t} (inl there) = subst (λ (r : Running Proc). LeadsOn judges room most p r false l (Some t)) (sym there.1) (with_asked f there.0)
+  come_lead {t} (inr came) = asks_lead (with_asked f came.0) v2 came.1 came.2
+
+  pub dropped_lead : HasDropped most v v2 asked → HasEnded judges most (hands_of room) (on_demand_of room) (version_of_lead l) p v2 (lead_view l)
+  dropped_lead d = drops_lead (with_asked f d.0) v2 d.1 d.2 d.3
 
 -- a call of thread t is asked
 module _ {judges : ℕ → Judge} {K : Type 0} {G : Ghosts K} {room : Room K} {most : ℕ} {p : Proc} {v : Running Proc} {l : Lead K G} {t : ℕ}

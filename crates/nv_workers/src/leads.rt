@@ -1,15 +1,15 @@
 //! A leader's turn.
-ghost use Rattle.std.specs.Prelude.{◌≡◌, ◌≤◌, ℕ, Some, None, false, true, length};
-ghost use Rattle.nv_threads.specs.Threads.{Proc};
+ghost use Rattle.std.specs.Prelude.{◌≡◌, ◌≤◌, ℕ, Some, None, false, true, length, IfSome};
+ghost use Rattle.nv_threads.specs.Threads.{Proc, threads};
 ghost use Rattle.nv_replay.specs.Follow.{Judge};
 ghost use Rattle.nv_replay.specs.Hands.{has, count_above};
+ghost use Rattle.nv_replay.specs.Version.{IsLiveLeader};
 ghost use Rattle.nv_room.specs.Kinds.{Stepped};
 ghost use Rattle.nv_room.specs.Seats.{SameLead, lead_view, stations_of, version_of_lead, kernel_of, due_of};
 ghost use Rattle.nv_workers.specs.Terms.{AreOfRoom};
 ghost use Rattle.nv_workers.specs.Working.{LeadsOn};
 ghost use Rattle.nv_workers.specs.Growing.{OneMoreAtMost};
-ghost use Rattle.nv_workers.specs.Publishing.{CanPublish, IsPublished};
-ghost use Rattle.nv_workers.specs.inner.Leads.{AfterLead, HasPublished, IsLate, HasSpare, IsNext};
+ghost use Rattle.nv_workers.specs.inner.Leads.{AfterLead, HasCome, HasDropped, HasPublished, IsLate, HasSpare, IsNext};
 
 use crate::follows::Next;
 use crate::gate::{Gate, VersionNumber};
@@ -37,38 +37,9 @@ pub(crate) fn lead_turn<K: SyscallKernel, G: Gate>(
     ensures rewrites { version.old.at.rewrites ≤ version.new.at.rewrites }
     ensures steps { Stepped (stations_of room.now) (lead_view lead.old) (lead_view lead.new) }
 {
-    match *asked {
-        Some(tid) => serve(version, lead, asked, tid, room, terms),
-        None => match version.lead(terms.most) {
-            Led::Dropped(_) => Next::Leaves,
-            Led::Asked(tid) => {
-                *asked = Some(tid);
-                serve(version, lead, asked, tid, room, terms)
-            }
-        },
-    }
-}
-
-// Serves the call that is asked, where its event has a place.
-fn serve<K: SyscallKernel, G: Gate>(
-    version: &mut Version,
-    lead: &mut Lead<K>,
-    asked: &mut Option<u32>,
-    tid: u32,
-    room: &Room<K>,
-    terms: &Terms<'_, G>,
-) -> Next
-    requires leads { (judges : ℕ → Judge) × (p : Proc) × LeadsOn judges room.now terms.now.most p version.old false lead.old (Some tid) }
-    requires terms { AreOfRoom room.now terms.now }
-    requires asked { asked.old ≡ Some tid }
-    ensures same { SameLead lead.old lead.new }
-    ensures after { (judges : ℕ → Judge) (p : Proc) → LeadsOn judges room.now terms.now.most p version.old false lead.old (Some tid) → AfterLead judges room.now terms.now.most p version.new lead.new asked.new result }
-    ensures published { HasPublished (lead_view lead.old) (lead_view lead.new) result }
-    ensures late { IsLate room.now lead.old lead.new result }
-    ensures one { OneMoreAtMost (length (lead_view lead.old).seen) (length (lead_view lead.new).seen) }
-    ensures rewrites { version.old.at.rewrites ≤ version.new.at.rewrites }
-    ensures steps { Stepped (stations_of room.now) (lead_view lead.old) (lead_view lead.new) }
-{
+    let Some(tid) = come_to_call(version, asked, terms.most) else {
+        return Next::Leaves;
+    };
     if let Placed::Waiting(_) = place(lead, room) {
         terms.gate.at_wait(leader(lead));
         return Next::Waits;
@@ -78,9 +49,32 @@ fn serve<K: SyscallKernel, G: Gate>(
         return Next::Leaves;
     }
     terms.gate.before_publish(leader(lead), lead.seen());
-    publish_call(version, lead, tid, room, terms.gate);
+    publish(lead, room, version.pending(tid));
+    let event = lead.kernel().last();
+    version.answered(event);
+    terms.gate.after_publish(leader(lead), event);
     *asked = None;
     next_of(version, lead, room, terms.hands)
+}
+
+// The thread whose call is asked; the version comes to one where none is. None where it is dropped.
+fn come_to_call(version: &mut Version, asked: &mut Option<u32>, most: u32) -> Option<u32>
+    requires leading { asked.old ≡ None → IsLiveLeader version.old }
+    requires on { asked.old ≡ None → threads.ended version.old.at.process ≡ None }
+    ensures dropped { result ≡ None → HasDropped most version.old version.new asked.old }
+    ensures came { IfSome result (λ tid. (asked.new ≡ Some tid) × HasCome most version.old version.new asked.old tid) }
+    ensures rewrites { version.old.at.rewrites ≤ version.new.at.rewrites }
+{
+    if let Some(tid) = *asked {
+        return Some(tid);
+    }
+    match version.lead(most) {
+        Led::Dropped(_) => None,
+        Led::Asked(tid) => {
+            *asked = Some(tid);
+            Some(tid)
+        }
+    }
 }
 
 // The version that leads, whatever its station's number is.
@@ -150,22 +144,4 @@ fn is_planned(hands: &[u32], length: u32) -> bool
     ensures { result ≡ has hands.now length }
 {
     hands.contains(&length)
-}
-
-// The call that the version asked is served, published and answered.
-fn publish_call<K: SyscallKernel, G: Gate>(
-    version: &mut Version,
-    lead: &mut Lead<K>,
-    tid: u32,
-    room: &Room<K>,
-    gate: &G,
-)
-    requires { CanPublish room.now version.old lead.old tid }
-    ensures published { IsPublished room.now version.old lead.old tid version.new lead.new }
-    ensures steps { Stepped (stations_of room.now) (lead_view lead.old) (lead_view lead.new) }
-{
-    publish(lead, room, version.pending(tid));
-    let event = lead.kernel().last();
-    version.answered(event);
-    gate.after_publish(leader(lead), event);
 }

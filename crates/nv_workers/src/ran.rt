@@ -10,7 +10,7 @@ ghost use Rattle.nv_replay.specs.Version.{Running, standing_of};
 ghost use Rattle.nv_room.specs.Seats.{versions_of, hands_of, on_demand_of, origin};
 ghost use Rattle.nv_workers.specs.Ends.{IsAccount};
 ghost use Rattle.nv_workers.specs.Terms.{AreOfRoom, judges_of};
-ghost use Rattle.nv_workers.specs.inner.Rounds.{CanAll, AllOn, AreGone};
+ghost use Rattle.nv_workers.specs.inner.Rounds.{AreGone};
 ghost use Rattle.nv_workers.specs.Staffing.{AreNew, AreAsMade, HasMemoryFor};
 ghost use Rattle.nv_workers.specs.Ran.{AllRan, AreApart};
 
@@ -55,7 +55,7 @@ pub fn run_all<R: Threads + Wait + Sync, K: SyscallKernel, G: Gate + Sync>(
     rt: &R,
     alloc: Global,
     room: Room<K>,
-    workers: Vec<Worker<K>>,
+    mut workers: Vec<Worker<K>>,
     terms: &Terms<'_, G>,
     threads: u32,
 ) -> Result<Ran<K>, NotRun<K>>
@@ -69,34 +69,10 @@ pub fn run_all<R: Threads + Wait + Sync, K: SyscallKernel, G: Gate + Sync>(
     let Ok((versions, left)) = lists_for(alloc, workers.len()) else {
         return Err(NotRun { room, workers });
     };
-    Ok(run_workers(rt, room, workers, versions, left, terms, threads))
-}
-
-// The same with empty lists, which have memory for what is left of the workers.
-fn run_workers<R: Threads + Wait + Sync, K: SyscallKernel, G: Gate + Sync>(
-    rt: &R,
-    room: Room<K>,
-    mut workers: Vec<Worker<K>>,
-    mut versions: Vec<Version>,
-    mut left: Vec<Left<K>>,
-    terms: &Terms<'_, G>,
-    threads: u32,
-) -> Ran<K>
-    requires new { (fresh : List (Running Proc)) × AreNew room 0 fresh workers.items }
-    requires all { vec_len workers ≡ versions_of room }
-    requires terms { AreOfRoom room terms.now }
-    requires empty { (versions.items ≡ []) × (left.items ≡ []) }
-    requires room { (vec_len workers ≤ vec_capacity versions) × (vec_len workers ≤ vec_capacity left) }
-    ensures room { result.room ≡ room }
-    ensures ran { (fresh : List (Running Proc)) → AreNew room 0 fresh workers.items → AllRan (judges_of terms.now) result.room terms.now.most fresh result.versions.items result.left.items }
-{
-    run_beside(rt, &mut workers, &room, terms, threads);
-    take_apart(workers, &mut versions, &mut left);
-    Ran {
-        room,
-        left,
-        versions,
-    }
+    let beside = workers.as_mut_slice();
+    deal(rt, beside, &room, terms, threads as usize);
+    rotate(rt, beside, &room, terms);
+    Ok(collect(room, workers, versions, left))
 }
 
 /// Staffs a room as it was made, and runs its versions until all have ended, on so many host threads. It takes no memory of its own.
@@ -124,8 +100,11 @@ pub fn run_staffed<R: Threads + Wait + Sync, K: SyscallKernel, G: Gate + Sync>(
         left,
     } = stock;
     let (room, readers, lead) = made;
-    let workers = staff_with(bufs, workers, versions, readers, lead);
-    run_workers(rt, room, workers, ended, left, terms, threads)
+    let mut workers = staff_with(bufs, workers, versions, readers, lead);
+    let beside = workers.as_mut_slice();
+    deal(rt, beside, &room, terms, threads as usize);
+    rotate(rt, beside, &room, terms);
+    collect(room, workers, ended, left)
 }
 
 /// What is left of workers that have taken their turns one by one, once all have left.
@@ -138,14 +117,8 @@ pub fn gather<K: SyscallKernel>(
     ensures room { IfOk result (λ r. r.room ≡ room) }
     ensures apart { IfOk result (λ r. AreApart workers.items r.versions.items r.left.items) }
 {
-    let (mut versions, mut left) = lists_for(alloc, workers.len())?;
-    take_apart(workers, &mut versions, &mut left);
-    let ran = Ran {
-        room,
-        left,
-        versions,
-    };
-    Ok(ran)
+    let (versions, left) = lists_for(alloc, workers.len())?;
+    Ok(collect(room, workers, versions, left))
 }
 
 // Empty lists, with memory for what is left of so many workers.
@@ -161,21 +134,25 @@ pub(crate) fn lists_for<K: SyscallKernel>(
     Ok((versions, left))
 }
 
-// Turns on so many threads, and then on this one, until all have ended.
-fn run_beside<R: Threads + Wait + Sync, K: SyscallKernel, G: Gate + Sync>(
-    rt: &R,
-    workers: &mut [Worker<K>],
-    room: &Room<K>,
-    terms: &Terms<'_, G>,
-    threads: u32,
-)
-    requires can { CanAll (judges_of terms.now) room.now terms.now.most workers.old }
-    requires terms { AreOfRoom room.now terms.now }
-    ensures on { AllOn (judges_of terms.now) room.now terms.now.most workers.old workers.new }
-    ensures gone { AreGone workers.new }
+// What is left of workers that have left, in empty lists that have memory for it.
+fn collect<K: SyscallKernel>(
+    room: Room<K>,
+    workers: Vec<Worker<K>>,
+    mut versions: Vec<Version>,
+    mut left: Vec<Left<K>>,
+) -> Ran<K>
+    requires gone { AreGone workers.items }
+    requires empty { (versions.items ≡ []) × (left.items ≡ []) }
+    requires room { (vec_len workers ≤ vec_capacity versions) × (vec_len workers ≤ vec_capacity left) }
+    ensures room { result.room ≡ room }
+    ensures apart { AreApart workers.items result.versions.items result.left.items }
 {
-    deal(rt, workers, room, terms, threads as usize);
-    rotate(rt, workers, room, terms);
+    take_apart(workers, &mut versions, &mut left);
+    Ran {
+        room,
+        left,
+        versions,
+    }
 }
 
 // The versions and the seats that have left, in order.

@@ -1,7 +1,6 @@
 // The words of the command line.
 use crate::notes::Wishes;
-use nv_command::{Command, LineFault, Name, Service};
-use nv_driver::Commented;
+use nv_driver::{Command, Commented, LineFault, Name, Service};
 use std::{env, io};
 
 // Arguments are refused where one of them isn't text.
@@ -55,7 +54,7 @@ pub fn wishes(rt: &HostRuntime, words: &Result<Vec<String>, LineFault>) -> Wishe
     let Ok(words) = words else {
         return NO_WISHES;
     };
-    match nv_command::read(rt.alloc(), words.as_slice()) {
+    match nv_driver::read(rt.alloc(), words.as_slice()) {
         Ok(Command::Serve(service)) => wished_of(&service),
         _ => NO_WISHES,
     }

@@ -1,10 +1,10 @@
 -- A live run, step by step.
-use Rattle.std.specs.Prelude.{◌≡◌, ◌≤◌, ◌⊎◌, ℕ, Bool, false, List, [], Option, IsTrue, length, map}
+use Rattle.std.specs.Prelude.{◌≡◌, ◌⊎◌, ℕ, Bool, false, List, [], Option}
 use Rattle.nv_script.specs.Arrivals.{Arrival}
 use Rattle.nv_arriving.specs.Arriving.{start_of_arrivals}
 use Rattle.nv_arriving.specs.Kernel.{Coming, begun_in}
 use Rattle.nv_bpf.specs.declared.op.Op.{Op}
-use Rattle.nv_command.specs.Words.{Limits}
+use Rattle.nv_driver.specs.Words.{Limits}
 use Rattle.nv_kernel.specs.Logged.{Logged}
 use Rattle.nv_live.specs.Lines.{held_text}
 use Rattle.nv_live.specs.Run.{input_of, output_of, notes_of, line_of, held_by, stop_of_run, told_run, IsBegun}
@@ -16,31 +16,17 @@ use Rattle.nv_live.specs.declared.streams.Streams.{Streams as Held}
 use Rattle.nv_live.specs.declared.writer.Writer.{Writer}
 use Rattle.nv_machine.specs.Guest.{Machine}
 use Rattle.nv_outside.specs.Sink.{Put, Puts}
-use Rattle.nv_replay.specs.Account.{AreFresh}
 use Rattle.nv_replay.specs.Follow.{judge_of}
 use Rattle.nv_replay.specs.Sequence.{Account}
-use Rattle.nv_replay.specs.Version.{Running, process_of}
+use Rattle.nv_replay.specs.Version.{Running}
 use Rattle.nv_replay.specs.declared.account.Account.{Account as Ran}
-use Rattle.nv_script.specs.Scripts.{Setup, is_script}
-use Rattle.nv_script.specs.Transcripts.{IsTranscript}
-use Rattle.nv_script.specs.Views.{setup_of}
-use Rattle.nv_threads.specs.Threads.{Proc, threads}
-use Rattle.nv_driver.specs.Account.{IsRunOf, process_begun, run_status}
+use Rattle.nv_script.specs.Scripts.{Setup}
+use Rattle.nv_threads.specs.Threads.{Proc}
+use Rattle.nv_driver.specs.Account.{IsRunOf, run_status}
 use Rattle.nv_driver.specs.Due.{Says}
-use Rattle.nv_driver.specs.Live.{Lived, Unserved, Streams, with_arrivals, with_hands, ending_of}
-use Rattle.nv_driver.specs.Outcome.{NoMemory, text_of}
-use Rattle.nv_driver.specs.Refusals.{IsPlanned}
+use Rattle.nv_driver.specs.Live.{Lived, Streams, with_arrivals, with_hands, ending_of}
 use Rattle.nv_driver.specs.declared.ending.Ending.{Ending}
-use Rattle.nv_driver.specs.declared.ending.Ending.TheVariants.{Finished}
-use Rattle.nv_driver.specs.declared.live.LivePrepared.{LivePrepared}
 use Rattle.nv_cli.specs.inner.Demands.{IsAccountOnDemand}
-
--- a live run's files, with what its kernel and its versions ask of them
-pub record IsReadyToServe (prepared : LivePrepared) : Type 0 where
-  pub sound : IsTrue (is_script (setup_of prepared.script))
-  pub fresh : AreFresh threads 0 prepared.versions.items
-  pub few : length prepared.versions.items ≤ 8
-  pub planned : IsPlanned (setup_of prepared.script) prepared.script.hands.items
 
 module _ {I O T : Type 0} (took : I → Option (List (List ℕ))) (unread : I → ℕ) (moments : I → Option (List Moment)) (said : O → Option (List ℕ)) (unsaid : O → ℕ) (noted : T → Option (List ℕ)) (unnoted : T → ℕ) where
   -- what an outside of a live run tells of itself
@@ -89,10 +75,3 @@ pub record Served (limits : Limits) (clients : Bool) (setup : Setup) (rules : Op
   pub is_run : IsRunOf clients limits (with_hands (with_arrivals setup arrivals) asked) rules machines account
   pub says : Says [] (run_status account.lines) before faults status after later_faults
   pub lived : Lived clients (with_arrivals setup arrivals) account.log left.1 streams left.0
-
--- That is so, or memory was wanted and nobody was served.
-abbrev pub ServeSays : Limits → Bool → LivePrepared → Streams → Option (List ℕ) → ℕ → ℕ → Option (List ℕ) → ℕ → Streams × Ending → Type 0
-ServeSays limits clients prepared streams before faults status after later_faults left = (machines : List Machine) → map process_of prepared.versions.items ≡ map (process_begun limits (setup_of prepared.script)) machines
-    → IsTranscript prepared.head.items (setup_of prepared.script) → (setup_of prepared.script).arrivals ≡ []
-    → Served limits clients (setup_of prepared.script) prepared.rules machines streams before faults status after later_faults left
-    ⊎ (Says (text_of NoMemory) 3 before faults status after later_faults × Unserved streams left.0 × (left.1 ≡ Finished))

@@ -2,7 +2,7 @@
 use Rattle.std.specs.Prelude.{◌≡◌, ◌≢◌, ◌≤◌, ℕ, List, [], ◌∷◌, Option, None, Some, Ok, Err, length, map}
 use Rattle.nv_outside.specs.Counts.{Rose}
 use Rattle.nv_outside.specs.Told.{Told, MayFail}
-use Rattle.nv_command.specs.Words.{Limits, Parts, Plan, Service}
+use Rattle.nv_driver.specs.Words.{Limits, Parts, Plan, Service}
 use Rattle.nv_script.specs.Scripts.{Setup, script_of}
 use Rattle.nv_script.specs.Transcripts.{IsTranscript}
 use Rattle.nv_script.specs.declared.fault.ScriptFault.{ScriptFault}

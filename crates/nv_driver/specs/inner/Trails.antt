@@ -2,7 +2,7 @@
 use Rattle.std.specs.Prelude.{◌≡◌, ◌≢◌, ℕ, Bool, false, List, Option, Result, Ok, Err}
 use Rattle.nv_outside.specs.Counts.{Rose}
 use Rattle.nv_outside.specs.Told.{Told}
-use Rattle.nv_command.specs.Words.{Trail}
+use Rattle.nv_driver.specs.Words.{Trail}
 use Rattle.nv_bpf.specs.declared.op.Op.{Op}
 use Rattle.nv_calls.specs.Calls.{Entry}
 use Rattle.nv_machine.specs.Guest.{Machine}

@@ -4,7 +4,7 @@ use Rattle.nv_outside.specs.Counts.{Rose}
 use Rattle.nv_outside.specs.Told.{Told, MayFail}
 use Rattle.nv_driver.specs.Found.{Found, Agrees, TookLong}
 use Rattle.nv_driver.specs.Made.{made_of}
-use Rattle.nv_command.specs.declared.asked.Tool.{Tool}
+use Rattle.nv_driver.specs.declared.asked.Tool.{Tool}
 use Rattle.nv_driver.specs.declared.refusal.Cause.{Cause}
 use Rattle.nv_driver.specs.declared.refusal.Cause.TheVariants.{Long}
 use Rattle.nv_driver.specs.declared.tools.Unmade.{Unmade}

@@ -1,19 +1,27 @@
 -- What a leader's turn comes to.
-use Rattle.std.specs.Prelude.{◌≡◌, ◌+◌, ◌<◌, ◌≤◌, ◌⊎◌, ℕ, true, false, List, length, Option, None}
+use Rattle.std.specs.Prelude.{◌≡◌, ◌+◌, ◌<◌, ◌≤◌, ◌⊎◌, ℕ, true, false, List, length, Option, None, Some}
 use Rattle.nv_calls.specs.declared.kernel.SyscallKernel.{Ghosts}
 use Rattle.nv_room.specs.declared.view.View.{View}
 use Rattle.nv_room.specs.declared.room.Room.{Room}
 use Rattle.nv_room.specs.declared.room.Lead.{Lead}
 use Rattle.nv_room.specs.Seats.{IsLeadOf, lead_view, version_of_lead, opened_of, due_of, stations_of, hands_of, on_demand_of}
 use Rattle.nv_ring.specs.Places.{WaitsFor}
-use Rattle.nv_threads.specs.Threads.{Proc}
+use Rattle.nv_threads.specs.Threads.{Proc, threads}
 use Rattle.nv_replay.specs.Follow.{Judge}
 use Rattle.nv_replay.specs.Hands.{has, count_above}
 use Rattle.nv_replay.specs.Sequence.{is_going}
-use Rattle.nv_replay.specs.Version.{Running}
+use Rattle.nv_replay.specs.Version.{Running, asking_next}
 use Rattle.nv_workers.specs.declared.follows.Next.{Next}
 use Rattle.nv_workers.specs.declared.follows.Next.TheVariants.{Moved, Ahead, Waits, Leads, Hands, Leaves, Left}
 use Rattle.nv_workers.specs.Working.{LeadsOn, HasEnded}
+
+-- The version came to no call: it was dropped.
+abbrev pub HasDropped : ℕ → Running Proc → Running Proc → Option ℕ → Type 0
+HasDropped most v v2 asked = (asked ≡ None) × (v2 ≡ asking_next threads most v) × (v2.asked ≡ None) × (is_going v2.at.fate ≡ false)
+
+-- A call of this thread was asked already, or the version has come to it.
+abbrev pub HasCome : ℕ → Running Proc → Running Proc → Option ℕ → ℕ → Type 0
+HasCome most v v2 asked tid = ((asked ≡ Some tid) × (v2 ≡ v)) ⊎ ((asked ≡ None) × (v2 ≡ asking_next threads most v) × (v2.asked ≡ Some tid))
 
 -- Leaders hand over on demand. A station is left beside those kept for the planned lengths above this one, and the version may lead a part beside those that it
 -- may have to lead from them on.

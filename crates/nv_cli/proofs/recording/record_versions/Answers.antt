@@ -4,7 +4,7 @@ use Rattle.std.proofs.Common.{◌≡◌, ◌∙◌, ℕ, ◌≤◌, ap, sym, sub
 use Rattle.std.specs.List.{list_any}
 use Rattle.nv_calls.specs.Logs.{Start}
 use Rattle.nv_arriving.specs.Scripted.{start_from}
-use Rattle.nv_command.specs.Seen.{limits_view}
+use Rattle.nv_driver.specs.Seen.{limits_view}
 use Rattle.nv_replay.specs.Follow.{judge_of}
 use Rattle.nv_replay.specs.Lead.{is_memory}
 use Rattle.nv_replay.specs.Version.{Running, standing_of}

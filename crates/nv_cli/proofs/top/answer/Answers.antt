@@ -1,16 +1,16 @@
 use Rattle.std.proofs.Common.{◌≡◌, ◌∙◌, inr, refl, ap, sym, subst, ℕ, List, Option, None, Some}
-use Rattle.nv_command.specs.Words.{Command, Service, Runs, Serves, Uses, Generates, Records, Replays, Inspects, Helps, command_of, texts}
-use Rattle.nv_command.specs.Seen.{WordsRefused, command_view}
-use Rattle.nv_command.specs.declared.asked.LineFault.{LineFault}
-use Rattle.nv_command.specs.declared.asked.LineFault.TheVariants as line
-use Rattle.nv_command.specs.declared.asked.Command.{Command as Asked}
+use Rattle.nv_driver.specs.Words.{Command, Service, Runs, Serves, Uses, Generates, Records, Replays, Inspects, Helps, command_of, texts}
+use Rattle.nv_driver.specs.Seen.{WordsRefused, command_view}
+use Rattle.nv_driver.specs.declared.asked.LineFault.{LineFault}
+use Rattle.nv_driver.specs.declared.asked.LineFault.TheVariants as line
+use Rattle.nv_driver.specs.declared.asked.Command.{Command as Asked}
 use Rattle.nv_driver.specs.Due.{Answers, AnswersOver, IsUntouched, Over, Says}
 use Rattle.nv_driver.specs.Live.{Streams}
 use Rattle.nv_driver.specs.Outcome.{NoMemory, Source, outcome_status, source_of, text_of}
 use Rattle.nv_driver.specs.Tasks.{fault_outcome}
 use Rattle.nv_driver.specs.declared.ending.Ending.{Ending}
 use Rattle.nv_driver.specs.declared.ending.Ending.TheVariants.{Finished}
-use Rattle.nv_command.proofs.Within.{generated_within}
+use Rattle.nv_driver.proofs.Within.{generated_within}
 use Rattle.nv_driver.proofs.Commands.{made_answers, nothing_over, unserved, words_refused}
 use Rattle.nv_cli.specs.Streams.{streams_of, left_of}
 use Rattle.nv_cli.proofs.top.answer.Goals as goal

@@ -1,7 +1,7 @@
 use Rattle.std.proofs.Common.{◌≡◌, subst, Option, List}
 use Rattle.std.specs.Prelude.{option_map}
 use Rattle.nv_bpf.specs.declared.op.Op.{Op}
-use Rattle.nv_command.specs.Seen.{plan_view, limits_view}
+use Rattle.nv_driver.specs.Seen.{plan_view, limits_view}
 use Rattle.nv_driver.specs.inner.Ran.{RunSays}
 use Rattle.nv_driver.specs.Outcome.{source_of}
 use Rattle.nv_driver.proofs.Commands.{ran_answers, refusal_answers}

@@ -3,7 +3,7 @@ use denote.Param.Send.{param_send, arg_send}
 use Rattle.std.proofs.Common.{◌++◌, ap, codes, false, inl, inr, ⊎_elim, subst, map, option_map}
 use Rattle.nv_calls.specs.Logs.{Start, output_of, connections_of}
 use Rattle.nv_arriving.specs.Scripted.{start_from}
-use Rattle.nv_command.specs.Seen.{limits_view}
+use Rattle.nv_driver.specs.Seen.{limits_view}
 use Rattle.nv_replay.specs.Follow.{judge_of}
 use Rattle.nv_replay.specs.Version.{standing_of}
 use Rattle.nv_threads.specs.Threads.{threads}

@@ -13,8 +13,8 @@ use Rattle.nv_replay.specs.Version.{Running, process_of, standing_of}
 use Rattle.nv_script.specs.Scripts.{Setup}
 use Rattle.nv_threads.specs.Threads.{Proc, threads}
 use Rattle.nv_workers.specs.Ends.{IsAccount}
-use Rattle.nv_command.specs.Seen.{limits_view}
-use Rattle.nv_command.specs.Words.{Limits}
+use Rattle.nv_driver.specs.Seen.{limits_view}
+use Rattle.nv_driver.specs.Words.{Limits}
 use Rattle.nv_driver.specs.Account.{process_begun}
 use Rattle.nv_driver.specs.Due.{Says}
 use Rattle.nv_driver.specs.Outcome.{NoMemory, Summed, totals_of}

@@ -1,6 +1,6 @@
 use Rattle.std.proofs.Common.{subst, List, String}
 use Rattle.std.specs.Global.{Global}
-use Rattle.nv_command.specs.Words.{texts}
+use Rattle.nv_driver.specs.Words.{texts}
 use Rattle.nv_driver.specs.Outcome.{source_of}
 use Rattle.nv_driver.specs.Due.{AnswersOver}
 use Rattle.nv_cli.specs.Streams.{streams_of, left_of}

@@ -1,7 +1,7 @@
 use Rattle.std.proofs.Common.{subst, refl}
 use Rattle.std.specs.Prelude.{option_map}
-use Rattle.nv_command.specs.Words.{Helps}
-use Rattle.nv_command.specs.Tables.{name_view}
+use Rattle.nv_driver.specs.Words.{Helps}
+use Rattle.nv_driver.specs.Tables.{name_view}
 use Rattle.nv_driver.specs.Outcome.{Helped, source_of}
 use Rattle.nv_driver.specs.Tasks.{IsTaskOf}
 use Rattle.nv_driver.specs.declared.task.Task.{Task}

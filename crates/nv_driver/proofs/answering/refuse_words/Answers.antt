@@ -1,5 +1,5 @@
 use Rattle.std.proofs.Common.{sym, subst}
-use Rattle.nv_command.specs.declared.asked.LineFault.{LineFault}
+use Rattle.nv_driver.specs.declared.asked.LineFault.{LineFault}
 use Rattle.nv_driver.specs.Due.{Says}
 use Rattle.nv_driver.specs.Outcome.{text_of, outcome_status}
 use Rattle.nv_driver.specs.Tasks.{fault_outcome}

@@ -3,7 +3,7 @@ use Rattle.nv_outside.proofs.Writing.{puts-is}
 use Rattle.nv_driver.specs.Found.{Unread}
 use Rattle.nv_driver.specs.Outcome.{Source, Made, NoMemory, NotRead, source_of}
 use Rattle.nv_driver.specs.Due.{made_outcome}
-use Rattle.nv_command.specs.Words.{Job, Uses}
+use Rattle.nv_driver.specs.Words.{Job, Uses}
 use Rattle.nv_driver.proofs.Commands.{is_due, memory_due, unasked, job_refused}
 use Rattle.nv_driver.proofs.Making.{unreadable_by, memory_kept, refused_by}
 use Rattle.nv_driver.proofs.answering.use_file.Goals as goal

@@ -7,7 +7,7 @@ use Rattle.nv_gen.specs.Measures.{file_read_as}
 use Rattle.nv_gen.specs.Programs.{programs}
 use Rattle.nv_gen.specs.Texts.{bare, asks_beside_writes}
 use Rattle.nv_gen.proofs.Reading.{script_read, rules_read}
-use Rattle.nv_command.specs.Words.{usual}
+use Rattle.nv_driver.specs.Words.{usual}
 use Rattle.nv_script.specs.Scripts.{Setup}
 use Rattle.nv_script.specs.Views.{setup_of}
 use Rattle.nv_driver.specs.Prepared.{of_elf}

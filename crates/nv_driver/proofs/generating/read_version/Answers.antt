@@ -1,7 +1,7 @@
 use Rattle.std.proofs.Common.{◌≡◌, ◌∙◌, ap, ap₂, sym}
 use Rattle.std.proofs.lemmas.Result.{IfOk-weaker}
 use Rattle.nv_guest.specs.Guest.{machine_of}
-use Rattle.nv_command.specs.Words.{Limits, usual}
+use Rattle.nv_driver.specs.Words.{Limits, usual}
 use Rattle.nv_script.specs.Scripts.{Setup}
 use Rattle.nv_gen.specs.Texts.{bare}
 use Rattle.nv_driver.specs.Account.{process_begun}

@@ -1,6 +1,6 @@
 use Rattle.std.proofs.Common.{◌≡◌, ◌∙◌, ap, sym, ℕ}
-use Rattle.nv_command.specs.Words.{Inspects}
-use Rattle.nv_command.specs.Seen.{look_view}
+use Rattle.nv_driver.specs.Words.{Inspects}
+use Rattle.nv_driver.specs.Seen.{look_view}
 use Rattle.nv_replay.specs.Follow.{Follower, follow, fresh, judge_of}
 use Rattle.nv_inspect.specs.Points.{at_point, events_to}
 use Rattle.nv_inspect.specs.declared.points.TracePoint.{TracePoint}

@@ -2,7 +2,7 @@ use Rattle.std.proofs.Common.{◌≡◌, ◌∙◌, sym, ap, subst, refl, ℕ, L
 use Rattle.std.proofs.lemmas.Result.{err_from_is_err_and}
 use Rattle.nv_outside.specs.Told.{Told}
 use Rattle.std.specs.Borrow.{Bor}
-use Rattle.nv_command.specs.Seen.{names_view, service_view}
+use Rattle.nv_driver.specs.Seen.{names_view, service_view}
 use Rattle.nv_script.specs.Views.{setup_of}
 use Rattle.nv_driver.specs.Found.{Whole}
 use Rattle.nv_driver.specs.Prepared.{Ready}

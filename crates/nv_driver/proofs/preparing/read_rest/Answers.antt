@@ -2,7 +2,7 @@ use Rattle.std.proofs.Common.{◌≡◌, subst, ℕ, List, arith}
 use Rattle.std.proofs.lemmas.List.{length-map}
 use Rattle.nv_outside.specs.Told.{Told}
 use Rattle.std.specs.Borrow.{Bor}
-use Rattle.nv_command.specs.Seen.{limits_view, names_view, rules_view}
+use Rattle.nv_driver.specs.Seen.{limits_view, names_view, rules_view}
 use Rattle.nv_script.specs.Views.{setup_of}
 use Rattle.nv_driver.specs.inner.Refusals.{parts_with, AreLoaded, VersionsRefused}
 use Rattle.nv_driver.proofs.Loading.{rest_ready, rest_by_rules, rest_by_versions}

@@ -1,7 +1,7 @@
 use Rattle.std.proofs.Common.{◌∙◌, ap, subst, sym, List, ℕ}
 use Rattle.std.proofs.lemmas.Result.{err_from_is_err_and}
 use Rattle.nv_bpf.specs.Texts.{filter_of}
-use Rattle.nv_command.specs.Seen.{rules_view}
+use Rattle.nv_driver.specs.Seen.{rules_view}
 use Rattle.nv_driver.specs.Found.{IsReadOf}
 use Rattle.nv_driver.proofs.Loading.{rules_unreadable, rules_faulty, rules_read}
 use Rattle.nv_driver.proofs.preparing.read_rules.Goals as goal

@@ -1,7 +1,7 @@
 use Rattle.std.proofs.Common.{◌∙◌, ap, subst, sym, List, ℕ}
 use Rattle.std.proofs.lemmas.Result.{err_from_is_err_and}
 use Rattle.nv_guest.specs.Guest.{machine_of}
-use Rattle.nv_command.specs.Seen.{limits_view}
+use Rattle.nv_driver.specs.Seen.{limits_view}
 use Rattle.nv_script.specs.Views.{setup_of}
 use Rattle.nv_driver.specs.Found.{IsReadOf}
 use Rattle.nv_driver.specs.Prepared.{version_from}

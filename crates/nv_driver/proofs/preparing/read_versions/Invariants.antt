@@ -1,7 +1,7 @@
 use Rattle.std.proofs.Common.{◌≡◌, ◌≤◌, ℕ, List, take}
 use Rattle.nv_threads.specs.Threads.{threads}
 use Rattle.nv_replay.specs.Account.{AreFresh}
-use Rattle.nv_command.specs.Seen.{limits_view, names_view}
+use Rattle.nv_driver.specs.Seen.{limits_view, names_view}
 use Rattle.nv_script.specs.Views.{setup_of}
 use Rattle.nv_driver.specs.inner.Refusals.{AreLoaded}
 use Rattle.nv_driver.proofs.preparing.read_versions.Given as goal

@@ -1,5 +1,5 @@
 use Rattle.std.proofs.Common.{sym, subst, List, ℕ}
-use Rattle.nv_command.specs.Seen.{plan_view}
+use Rattle.nv_driver.specs.Seen.{plan_view}
 use Rattle.nv_driver.specs.Due.{Says}
 use Rattle.nv_driver.specs.Ran.{Wrote, Tells}
 use Rattle.nv_driver.specs.Outcome.{NotRead, outcome_of, refused_text, text_of}

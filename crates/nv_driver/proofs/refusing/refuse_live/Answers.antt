@@ -1,5 +1,5 @@
 use Rattle.std.proofs.Common.{sym, subst, List, ℕ}
-use Rattle.nv_command.specs.Seen.{service_view}
+use Rattle.nv_driver.specs.Seen.{service_view}
 use Rattle.nv_driver.specs.Due.{Says}
 use Rattle.nv_driver.specs.Ran.{Wrote, Tells}
 use Rattle.nv_driver.specs.Outcome.{NotRead, live_outcome_of, refused_text, text_of}

@@ -1,6 +1,6 @@
 use Rattle.std.proofs.Common.{◌≡◌, ◌∙◌, ap, sym, ℕ}
-use Rattle.nv_command.specs.Words.{Replays}
-use Rattle.nv_command.specs.Seen.{trail_view}
+use Rattle.nv_driver.specs.Words.{Replays}
+use Rattle.nv_driver.specs.Seen.{trail_view}
 use Rattle.nv_replay.specs.Follow.{Follower, follow, fresh, judge_of}
 use Rattle.nv_threads.specs.Threads.{Proc, threads}
 use Rattle.nv_driver.specs.Due.{replayed, traced_outcome}

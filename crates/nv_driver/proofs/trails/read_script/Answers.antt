@@ -1,6 +1,6 @@
 use Rattle.std.proofs.Common.{ap, subst, sym, refl, List, ℕ}
 use Rattle.std.proofs.lemmas.Result.{err_from_is_err_and, IfOk-weaker, IfErr-weaker}
-use Rattle.nv_command.specs.Seen.{script_view}
+use Rattle.nv_driver.specs.Seen.{script_view}
 use Rattle.nv_driver.specs.Found.{Whole, IsReadWithin, script_limit}
 use Rattle.nv_driver.specs.Traced.{script_at, of_script}
 use Rattle.nv_driver.specs.declared.refusal.Place.TheVariants.{Script}

@@ -1,6 +1,6 @@
 use Rattle.std.proofs.Common.{◌≡◌, ◌≤◌, ◌∙◌, ap, subst, refl, ℕ, List, arith}
 use Rattle.std.proofs.lemmas.Result.{err_from_is_err_and}
-use Rattle.nv_command.specs.Seen.{trail_view}
+use Rattle.nv_driver.specs.Seen.{trail_view}
 use Rattle.nv_outside.specs.Told.{Told}
 use Rattle.nv_script.specs.Views.{setup_of}
 use Rattle.nv_driver.specs.Found.{FILE_LIMIT, TRACE_LIMIT, script_limit}

@@ -1,6 +1,6 @@
 use denote.Exit.{no}
 use denote.Param.Send.{param_send, arg_send}
-use Rattle.nv_room_harness.proofs.Sending.{kernel_send}
+use Rattle.nv_room_tests.proofs.Sending.{kernel_send}
 use Rattle.nv_room_tests.proofs.tests.all_see.Goals as goal
 
 pub run-requires-send-K : goal.run-requires-send-K

@@ -1,4 +1,0 @@
-pub mod Apps
-mod Matches
-mod Lines
-pub mod Within

@@ -1,3 +1,0 @@
-mod Keeping
-mod Most
-mod Walks

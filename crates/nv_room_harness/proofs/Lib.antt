@@ -1,4 +1,0 @@
-mod Orders
-mod Living
-pub mod Shaped
-pub mod Sending

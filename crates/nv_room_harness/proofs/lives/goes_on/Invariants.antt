@@ -1,8 +1,0 @@
-use Rattle.std.proofs.Common.{map, take}
-use Rattle.std.specs.Prelude.{Contains}
-use Rattle.nv_calls.specs.Calls.{entry}
-use Rattle.nv_calls.specs.Logs.{live_after}
-use Rattle.nv_room_harness.proofs.lives.goes_on.Given as goal
-
-abbrev pub invariant-loop-event : goal.invariant-loop-event
-invariant-loop-event l = Contains (live_after (map entry (take l.event-index l.history))) 100
