@@ -1,3 +1,4 @@
 pub mod Texts
 mod Fractions
 mod Objects
+mod Spelling
