@@ -25,12 +25,12 @@ use Rattle.nv_arriving.specs.Kernel.{Coming, KeepsOn, after, Grew}
 use Rattle.nv_arriving.specs.Reserved.{Room}
 use Rattle.nv_arriving.specs.Scripted.{start_from}
 use Rattle.nv_arriving.specs.Standing.{StandsAt, StandsListed}
-use Rattle.nv_arriving.specs.Telling.{Adds, Tells}
+use Rattle.nv_arriving.specs.Telling.{Adds, Tells, HasHanded}
 use Rattle.nv_arriving.proofs.Kept.{goes, staged, satisfied, satisfied_served, log_served, log_clones}
 use Rattle.nv_arriving.proofs.LaterLaws.{vain_state, Steps, any_step}
 use Rattle.nv_arriving.proofs.Sides.{crew_still}
 use Rattle.nv_arriving.proofs.Staged.{reply_is}
-use Rattle.nv_arriving.proofs.Told.{told_heard, told_served, told_asked}
+use Rattle.nv_arriving.proofs.Told.{told_heard, told_served, told_asked, handed_first, handed_heard, handed_served}
 
 module _ {O : Type 0} (did : O → O → List Doing → Type 0) (is_over : O → Type 0) where
   -- before the first call
@@ -43,6 +43,13 @@ module _ {O : Type 0} (did : O → O → List Doing → Type 0) (is_over : O →
     live = ap (λ (z : Stage). z.here.state.own.crew.live) (sym e);
     crew = subst (λ (z : Stage). IsCrew z.here.state.own.crew) (sym e) first_is;
   }
+
+  pub hands_first : (g : Coming O) (outside : O) (setup : Setup) (log : List Entry) → g.begun ≡ outside → g.outside ≡ outside → g.came ≡ [] → log ≡ [] → HasHanded did g.begun g.outside setup g.came log []
+  hands_first g outside setup log begun now came none =
+      subst (λ (z : List Entry). HasHanded did g.begun g.outside setup g.came z []) (sym none)
+      (subst (λ (z : List Arrival). HasHanded did g.begun g.outside setup z [] []) (sym came)
+      (subst (λ (z : O). HasHanded did g.begun z setup [] [] []) (begun ∙ sym now)
+      (handed_first did g.begun setup)))
 
   -- no more calls were answered, and no more threads made, than a log may have
   pub few_served : (g : Coming O) (c : Request) → MayCome (StandsAt did is_over g) c → g.stage.here.state.own.served < 500000000
@@ -79,6 +86,9 @@ module _ {O : Type 0} (did : O → O → List Doing → Type 0) (is_over : O →
       live = k.live;
       crew = k.crew;
     }
+
+    pub hands_heard : (setup : Setup) (log : List Entry) (lengths : List ℕ) → StandsAt did is_over earlier setup log → HasHanded did begun old setup before log lengths → HasHanded did begun new setup now log lengths
+    hands_heard setup log lengths k = handed_heard did begun setup old new before now log log over refl k.satisfied same grew adds lengths
 
     pub goes_heard : (setup : Setup) (log : List Entry) → StandsAt did is_over earlier setup log → GoesOn log (start_of_arrivals setup before) (start_of_arrivals setup now)
     goes_heard setup log k = goes setup before now log over k.satisfied same grew
@@ -165,6 +175,12 @@ module _ {O : Type 0} (did : O → O → List Doing → Type 0) (is_over : O →
         live = live;
         crew = subst (λ (r : Answer Standing). IsCrew r.state.state.own.crew) answer step.is;
       }
+
+      pub hands_served : (lengths : List ℕ) → HasHanded did g.begun g.outside setup g.came log lengths → HasHanded did h.begun h.outside setup h.came (log ++ e ∷ []) lengths
+      hands_served lengths handed =
+          subst (λ (z : List Arrival). HasHanded did h.begun h.outside setup z (log ++ e ∷ []) lengths) (sym came)
+          (subst (λ (z : O). HasHanded did z h.outside setup g.came (log ++ e ∷ []) lengths) (sym begun)
+          (handed_served did g.begun setup g.came log e g.outside h.outside (log ++ e ∷ []) refl says_then lengths handed))
 
     -- it answers as the definition says, wherever it stands
     pub is_answer : IsAnswer (λ setup. start_of_arrivals setup g.came) (StandsAt did is_over g) (StandsAt did is_over h) c ret payload

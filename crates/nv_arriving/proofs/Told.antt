@@ -4,14 +4,16 @@ use Rattle.std.proofs.lemmas.Bool.{and_parts, and_from}
 use Rattle.std.proofs.lemmas.Bool.Decides.{nat_tests}
 use Rattle.nv_calls.specs.Answer.{state_after}
 use Rattle.nv_calls.specs.Calls.{Entry}
+use Rattle.nv_calls.specs.Hands.{with_hand}
 use Rattle.nv_calls.specs.Logs.{calls_of}
 use Rattle.nv_script.specs.Scripts.{Setup}
 use Rattle.nv_script.specs.Arrivals.{Arrival}
-use Rattle.nv_script.specs.Doings.{Said, Doing, Takes, Says, Hands, takings, sayings, handing}
+use Rattle.nv_script.specs.Doings.{Said, Doing, Takes, Says, Hands, takings, sayings, handings, handing}
 use Rattle.nv_arriving.specs.Arriving.{Stage, taken, ready_for, answer_next, serve_next, first_stage, Satisfied}
 use Rattle.nv_arriving.specs.Doings.{said, doings_of, doings}
 use Rattle.nv_arriving.specs.Kernel.{after, Grew}
-use Rattle.nv_arriving.specs.Telling.{Adds, taken_before, are_at_most, IsTold, Tells}
+use Rattle.nv_arriving.specs.Telling.{Adds, taken_before, are_at_most, IsTold, Tells, HasHanded}
+use Rattle.nv_live.proofs.Doing.{handings-append}
 use Rattle.nv_arriving.proofs.Doings.{doings_front, doings_more, takings_both, takings_all, takings_none, doings_taken}
 
 -- ---- what was said
@@ -43,6 +45,24 @@ module _ (n : ℕ) where
   before_handing : (k : ℕ) (b : Bool) → taken_before k (handing b n) ≡ []
   before_handing k true = refl
   before_handing k false = refl
+
+-- ---- at which lengths leaders gave up the lead
+
+handings_takes : (xs : List Arrival) → handings (map Takes xs) ≡ []
+handings_takes [] = refl
+handings_takes (a ∷ xs) = handings_takes xs
+
+handings_says : (xs : List Said) → handings (map Says xs) ≡ []
+handings_says [] = refl
+handings_says (s ∷ xs) = handings_says xs
+
+-- where none does so
+handings_still : (done more : List Doing) → handings more ≡ [] → handings (done ++ more) ≡ handings done
+handings_still done more none = handings-append done more ∙ ap (λ (z : List ℕ). handings done ++ z) none ∙ append-nil (handings done)
+
+handings_asked : (answer : Bool) (n : ℕ) (done : List Doing) → handings (done ++ handing answer n) ≡ with_hand answer n (handings done)
+handings_asked true n done = handings-append done (Hands n ∷ [])
+handings_asked false n done = ap handings (append-nil done)
 
 -- ---- how many were taken before each was said
 
@@ -86,28 +106,42 @@ module _ (setup : Setup) (before now : List Arrival) (log : List Entry) where
   doings_heard false h same g = ap (λ z. doings setup z log) g ∙ doings_more setup before more log (h refl)
 
 module _ {O : Type 0} (did : O → O → List Doing → Type 0) (begun : O) (setup : Setup) where
-  pub told_first : Tells did begun begun setup [] []
+  is_first : did begun begun [] → IsTold did begun begun setup [] [] []
   unfolding doings
-  told_first h = ([], record { is = h; took = refl; said = refl; no_sooner = refl })
+  is_first h = record { is = h; took = refl; said = refl; no_sooner = refl }
 
-  pub told_heard : (old new : O) (before now : List Arrival) (log log' : List Entry) (over : Bool) → log' ≡ log
-      → (over ≡ false → Satisfied (first_stage setup before) (calls_of log)) → (over ≡ true → now ≡ before) → Grew before now
-      → Adds did old new (map Takes (after before now)) → Tells did begun old setup before log → Tells did begun new setup now log'
-  told_heard old new before now log log' over e h same g adds t first =
-      let more : List Arrival = after before now in
-      let done : List Doing = (t first).0 in
-      let was : IsTold did begun old setup before log done = (t first).1 in
-      let d = doings_heard setup before now log over h same g in
-      let is : IsTold did begun new setup now log (done ++ map Takes more) = record {
-        is = adds begun done was.is;
-        took = takings_both done (map Takes more) ∙ ((λ i. was.took i ++ takings_all more i) ∙ sym g);
-        said = sayings_both done (map Takes more) ∙ (ap (λ (z : List Said). sayings done ++ z) (sayings_none more) ∙ (append-nil (sayings done) ∙ (was.said ∙ ap sayings (sym d))));
-        no_sooner =
-            let counts : taken_before 0 (done ++ map Takes more) ≡ taken_before 0 done =
-            before_both 0 done (map Takes more) ∙ ap (λ (z : List ℕ). taken_before 0 done ++ z) (before_takes (0 + length (takings done)) more) ∙ append-nil (taken_before 0 done) in
-            ap (λ (z : List Doing). are_at_most (taken_before 0 z) (taken_before 0 (done ++ map Takes more))) d ∙ ap (λ (z : List ℕ). are_at_most (taken_before 0 (doings setup before log)) z) counts ∙ was.no_sooner;
-      } in
-      (done ++ map Takes more, subst (λ (z : List Entry). IsTold did begun new setup now z (done ++ map Takes more)) (sym e) is)
+  pub told_first : Tells did begun begun setup [] []
+  told_first h = ([], is_first h)
+
+  pub handed_first : HasHanded did begun begun setup [] [] []
+  handed_first h = ([], is_first h, refl)
+
+  module _ (old new : O) (before now : List Arrival) (log log' : List Entry) (over : Bool) (e : log' ≡ log)
+      (h : over ≡ false → Satisfied (first_stage setup before) (calls_of log)) (same : over ≡ true → now ≡ before) (g : Grew before now)
+      (adds : Adds did old new (map Takes (after before now))) where
+    heard : (done : List Doing) → IsTold did begun old setup before log done → IsTold did begun new setup now log' (done ++ map Takes (after before now))
+    heard done was =
+        let more : List Arrival = after before now in
+        let d = doings_heard setup before now log over h same g in
+        let is : IsTold did begun new setup now log (done ++ map Takes more) = record {
+          is = adds begun done was.is;
+          took = takings_both done (map Takes more) ∙ ((λ i. was.took i ++ takings_all more i) ∙ sym g);
+          said = sayings_both done (map Takes more) ∙ (ap (λ (z : List Said). sayings done ++ z) (sayings_none more) ∙ (append-nil (sayings done) ∙ (was.said ∙ ap sayings (sym d))));
+          no_sooner =
+              let counts : taken_before 0 (done ++ map Takes more) ≡ taken_before 0 done =
+              before_both 0 done (map Takes more) ∙ ap (λ (z : List ℕ). taken_before 0 done ++ z) (before_takes (0 + length (takings done)) more) ∙ append-nil (taken_before 0 done) in
+              ap (λ (z : List Doing). are_at_most (taken_before 0 z) (taken_before 0 (done ++ map Takes more))) d ∙ ap (λ (z : List ℕ). are_at_most (taken_before 0 (doings setup before log)) z) counts ∙ was.no_sooner;
+        } in
+        subst (λ (z : List Entry). IsTold did begun new setup now z (done ++ map Takes more)) (sym e) is
+
+    pub told_heard : Tells did begun old setup before log → Tells did begun new setup now log'
+    told_heard t first = let told = t first in (told.0 ++ map Takes (after before now), heard told.0 told.1)
+
+    pub handed_heard : (lengths : List ℕ) → HasHanded did begun old setup before log lengths → HasHanded did begun new setup now log' lengths
+    handed_heard lengths t first =
+        let told = t first in
+        let more : List Doing = map Takes (after before now) in
+        (told.0 ++ more, heard told.0 told.1, handings_still told.0 more (handings_takes (after before now)) ∙ told.2)
 
 -- ---- where a call is served
 
@@ -154,36 +188,44 @@ module _ {O : Type 0} (did : O → O → List Doing → Type 0) (begun : O) (set
       before_both 0 done (map Says says) ∙ ap (λ (z : List ℕ). taken_before 0 done ++ z) (before_says n says) in
       (λ i. are_at_most (old i) (new i)) ∙ at_most_both (taken_before 0 (doings setup came log)) (taken_before 0 done) (map (λ _. m) says) (map (λ _. n) says) is (at_most_all m n says le)
 
-  pub told_served : (old new : O) (log' : List Entry) → log' ≡ log ++ e ∷ [] → Adds did old new (map Says says) → Tells did begun old setup came log → Tells did begun new setup came log'
-  told_served old new log' h adds t first =
-      let done : List Doing = (t first).0 in
-      let was : IsTold did begun old setup came log done = (t first).1 in
-      let is : IsTold did begun new setup came (log ++ e ∷ []) (done ++ map Says says) = record {
-        is = adds begun done was.is;
-        took = takings_both done (map Says says) ∙ (ap (λ (z : List Arrival). takings done ++ z) (takings_none says) ∙ (append-nil (takings done) ∙ was.took));
-        said = sayings_both done (map Says says) ∙ ((λ i. was.said i ++ sayings_all says i)
-            ∙ (ap (λ (z : List Said). sayings (doings setup came log) ++ z) (sym sayings_last)
-            ∙ (sym (sayings_both (doings setup came log) (doings_of stage e.call)) ∙ ap sayings (sym doings_last))));
-        no_sooner = no_sooner_last done was.took was.no_sooner;
-      } in
-      (done ++ map Says says, subst (λ (z : List Entry). IsTold did begun new setup came z (done ++ map Says says)) (sym h) is)
+  module _ (old new : O) (log' : List Entry) (h : log' ≡ log ++ e ∷ []) (adds : Adds did old new (map Says says)) where
+    after_call : (done : List Doing) → IsTold did begun old setup came log done → IsTold did begun new setup came log' (done ++ map Says says)
+    after_call done was =
+        let is : IsTold did begun new setup came (log ++ e ∷ []) (done ++ map Says says) = record {
+          is = adds begun done was.is;
+          took = takings_both done (map Says says) ∙ (ap (λ (z : List Arrival). takings done ++ z) (takings_none says) ∙ (append-nil (takings done) ∙ was.took));
+          said = sayings_both done (map Says says) ∙ ((λ i. was.said i ++ sayings_all says i)
+              ∙ (ap (λ (z : List Said). sayings (doings setup came log) ++ z) (sym sayings_last)
+              ∙ (sym (sayings_both (doings setup came log) (doings_of stage e.call)) ∙ ap sayings (sym doings_last))));
+          no_sooner = no_sooner_last done was.took was.no_sooner;
+        } in
+        subst (λ (z : List Entry). IsTold did begun new setup came z (done ++ map Says says)) (sym h) is
+
+    pub told_served : Tells did begun old setup came log → Tells did begun new setup came log'
+    told_served t first = let told = t first in (told.0 ++ map Says says, after_call told.0 told.1)
+
+    pub handed_served : (lengths : List ℕ) → HasHanded did begun old setup came log lengths → HasHanded did begun new setup came log' lengths
+    handed_served lengths t first = let told = t first in (told.0 ++ map Says says, after_call told.0 told.1, handings_still told.0 (map Says says) (handings_says says) ∙ told.2)
 
 -- ---- where it is asked whether the leader hands over
 
-module _ {O : Type 0} (did : O → O → List Doing → Type 0) (begun : O) (setup : Setup) (came : List Arrival) (log : List Entry) where
-  pub told_asked : (old new : O) (answer : Bool) (n : ℕ) → Adds did old new (handing answer n) → Tells did begun old setup came log → Tells did begun new setup came log
-  told_asked old new answer n adds t first =
-      let done : List Doing = (t first).0 in
-      let was : IsTold did begun old setup came log done = (t first).1 in
-      let more : List Doing = handing answer n in (
-        done ++ more,
-        record {
-          is = adds begun done was.is;
-          took = takings_both done more ∙ (ap (λ (z : List Arrival). takings done ++ z) (takings_handing n answer) ∙ (append-nil (takings done) ∙ was.took));
-          said = sayings_both done more ∙ (ap (λ (z : List Said). sayings done ++ z) (sayings_handing n answer) ∙ (append-nil (sayings done) ∙ was.said));
-          no_sooner =
-              let counts : taken_before 0 (done ++ more) ≡ taken_before 0 done =
-              before_both 0 done more ∙ ap (λ (z : List ℕ). taken_before 0 done ++ z) (before_handing n (0 + length (takings done)) answer) ∙ append-nil (taken_before 0 done) in
-              ap (λ (z : List ℕ). are_at_most (taken_before 0 (doings setup came log)) z) counts ∙ was.no_sooner;
-        },
-      )
+module _ {O : Type 0} (did : O → O → List Doing → Type 0) (begun : O) (setup : Setup) (came : List Arrival) (log : List Entry)
+    (old new : O) (answer : Bool) (n : ℕ) (adds : Adds did old new (handing answer n)) where
+  asked : (done : List Doing) → IsTold did begun old setup came log done → IsTold did begun new setup came log (done ++ handing answer n)
+  asked done was =
+      let more : List Doing = handing answer n in
+      record {
+        is = adds begun done was.is;
+        took = takings_both done more ∙ (ap (λ (z : List Arrival). takings done ++ z) (takings_handing n answer) ∙ (append-nil (takings done) ∙ was.took));
+        said = sayings_both done more ∙ (ap (λ (z : List Said). sayings done ++ z) (sayings_handing n answer) ∙ (append-nil (sayings done) ∙ was.said));
+        no_sooner =
+            let counts : taken_before 0 (done ++ more) ≡ taken_before 0 done =
+            before_both 0 done more ∙ ap (λ (z : List ℕ). taken_before 0 done ++ z) (before_handing n (0 + length (takings done)) answer) ∙ append-nil (taken_before 0 done) in
+            ap (λ (z : List ℕ). are_at_most (taken_before 0 (doings setup came log)) z) counts ∙ was.no_sooner;
+      }
+
+  pub told_asked : Tells did begun old setup came log → Tells did begun new setup came log
+  told_asked t first = let told = t first in (told.0 ++ handing answer n, asked told.0 told.1)
+
+  pub handed_asked : (lengths : List ℕ) → HasHanded did begun old setup came log lengths → HasHanded did begun new setup came log (with_hand answer n lengths)
+  handed_asked lengths t first = let told = t first in (told.0 ++ handing answer n, asked told.0 told.1, handings_asked answer n told.0 ∙ ap (with_hand answer n) told.2)

@@ -3,7 +3,7 @@ use Rattle.std.specs.Prelude.{◌≡◌, ◌+◌, ◌&&◌, ℕ, Bool, true, fal
 use Rattle.nv_calls.specs.Calls.{Entry}
 use Rattle.nv_script.specs.Scripts.{Setup}
 use Rattle.nv_script.specs.Arrivals.{Arrival}
-use Rattle.nv_script.specs.Doings.{Doing, Takes, Says, Hands, takings, sayings}
+use Rattle.nv_script.specs.Doings.{Doing, Takes, Says, Hands, takings, sayings, handings}
 use Rattle.nv_arriving.specs.Doings.{doings}
 
 -- from one object to the next just this was done, behind whatever was done before
@@ -35,3 +35,7 @@ pub record IsTold {O : Type 0} (did : O → O → List Doing → Type 0) (begun 
 -- an outside that tells of itself that nothing was done at first tells all that was done
 abbrev pub Tells : {O : Type 0} → (O → O → List Doing → Type 0) → O → O → Setup → List Arrival → List Entry → Type 0
 Tells did begun now setup came log = did begun begun [] → ((done : List Doing) × IsTold did begun now setup came log done)
+
+-- and so it tells all of it, in which leaders gave up the lead by operators' words at just these lengths of the log
+abbrev pub HasHanded : {O : Type 0} → (O → O → List Doing → Type 0) → O → O → Setup → List Arrival → List Entry → List ℕ → Type 0
+HasHanded did begun now setup came log lengths = did begun begun [] → ((done : List Doing) × IsTold did begun now setup came log done × (handings done ≡ lengths))

@@ -1,7 +1,9 @@
 // What answers where input arrives.
-ghost use Rattle.std.specs.Prelude.{◌≡◌, ◌≤◌, ℕ, [], List, false, true, IfOk, OnOk, length, map, take, slice_index};
+ghost use Rattle.std.specs.Prelude.{◌≡◌, ◌≤◌, ◌++◌, ◌∷◌, ℕ, [], List, false, true, IfOk, OnOk, length, map, take, slice_index};
 ghost use Rattle.nv_calls.specs.Calls.{request, Entry};
+ghost use Rattle.nv_calls.specs.Hands.{with_hand};
 ghost use Rattle.nv_calls.specs.Limits.{MOST_BYTES};
+ghost use Rattle.nv_calls.specs.Logs.{served};
 ghost use Rattle.nv_calls.specs.Shapes.{IsShaped};
 ghost use Rattle.nv_calls.specs.Learning.{GoesOn};
 ghost use Rattle.nv_script.specs.Scripts.{Setup};
@@ -14,6 +16,7 @@ ghost use Rattle.nv_arriving.specs.Arriving.{first_standing, start_of_arrivals};
 ghost use Rattle.nv_arriving.specs.Kernel.{CanServe, KeepsOn, begun_in};
 ghost use Rattle.nv_arriving.specs.Reserved.{IsKept};
 ghost use Rattle.nv_arriving.specs.Standing.{StandsAt};
+ghost use Rattle.nv_arriving.specs.Telling.{HasHanded};
 ghost use Rattle.nv_arriving.specs.Views.{standing_of, room_of};
 
 use crate::arrivals::{learn, rest};
@@ -214,6 +217,9 @@ impl<O: Outside + Telling + Send> Answers for Guests<O> {
 
     ghost stands = { StandsAt O.did O.is_over };
 
+    // What the outside tells of it.
+    ghost handed = { λ g setup log. HasHanded O.did g.begun g.outside setup g.came log };
+
     // A live run may last.
     ghost keeps_all = { false };
 
@@ -224,6 +230,7 @@ impl<O: Outside + Telling + Send> Answers for Guests<O> {
         ensures start { (setup : Setup) → begun_in O.told setup self.new ≡ begun_in O.told setup self.old }
         ensures stands { (setup : Setup) (log : List Entry) → StandsAt O.did O.is_over self.old setup log → StandsAt O.did O.is_over self.new setup log }
         ensures known { (setup : Setup) (log : List Entry) → StandsAt O.did O.is_over self.old setup log → GoesOn log (start_of_arrivals setup self.old.came) (start_of_arrivals setup self.new.came) }
+        ensures handed { (setup : Setup) (log : List Entry) (lengths : List ℕ) → StandsAt O.did O.is_over self.old setup log → HasHanded O.did self.old.begun self.old.outside setup self.old.came log lengths → HasHanded O.did self.new.begun self.new.outside setup self.new.came log lengths }
         ensures ready { OnOk result (CanServe self.new (request call.now)) }
         ensures over { self.old.over ≡ true → self.new.over ≡ true }
         ensures came { self.old.over ≡ true → self.new.came ≡ self.old.came }
@@ -256,6 +263,7 @@ impl<O: Outside + Telling + Send> Answers for Guests<O> {
         ensures start { (setup : Setup) → begun_in O.told setup self.new ≡ begun_in O.told setup self.old }
         ensures known { (setup : Setup) → start_of_arrivals setup self.new.came ≡ start_of_arrivals setup self.old.came }
         ensures answer { IsAnswer (λ setup. start_of_arrivals setup self.old.came) (StandsAt O.did O.is_over self.old) (StandsAt O.did O.is_over self.new) (request call.now) result out.new.bytes }
+        ensures handed { (setup : Setup) (log : List Entry) (lengths : List ℕ) → StandsAt O.did O.is_over self.old setup log → HasHanded O.did self.old.begun self.old.outside setup self.old.came log lengths → HasHanded O.did self.new.begun self.new.outside setup self.new.came (log ++ served (start_of_arrivals setup self.old.came) log (request call.now) ∷ []) lengths }
         ensures capacity { out.new.capacity ≡ out.old.capacity }
         ensures few { length out.new.bytes ≤ most_out (request call.now) }
         ensures over { self.new.over ≡ self.old.over }
@@ -283,6 +291,7 @@ impl<O: Outside + Telling + Send> Answers for Guests<O> {
         ensures start { (setup : Setup) → begun_in O.told setup self.new ≡ begun_in O.told setup self.old }
         ensures stands { (setup : Setup) (log : List Entry) → StandsAt O.did O.is_over self.old setup log → StandsAt O.did O.is_over self.new setup log }
         ensures known { (setup : Setup) → start_of_arrivals setup self.new.came ≡ start_of_arrivals setup self.old.came }
+        ensures handed { (setup : Setup) (log : List Entry) (lengths : List ℕ) → HasHanded O.did self.old.begun self.old.outside setup self.old.came log lengths → HasHanded O.did self.new.begun self.new.outside setup self.new.came log (with_hand result length lengths) }
         ensures over { self.new.over ≡ self.old.over }
         ensures came { self.new.came ≡ self.old.came }
         ensures kept { KeepsOn self.old self.new }

@@ -7,7 +7,7 @@ ghost use Rattle.nv_sockets.specs.Views.{link_of, written_of, gone_of};
 ghost use Rattle.nv_arriving.specs.Scripted.{start_from, stage_from};
 ghost use Rattle.nv_arriving.specs.Arriving.{first_stage, Satisfied};
 ghost use Rattle.nv_arriving.specs.Standing.{StandsAt};
-ghost use Rattle.nv_arriving.specs.Telling.{Tells};
+ghost use Rattle.nv_arriving.specs.Telling.{Tells, HasHanded};
 
 use crate::answering::Guests;
 use crate::guests::GuestSide;
@@ -33,6 +33,7 @@ pub fn arriving<O: Outside + Telling + Send>(
 ) -> Result<ArrivingKernel<O>, O>
     requires script { IsTrue (is_script (setup_of script.now)) }
     ensures begun { IfOk result (λ k. (k.log ≡ []) × (k.setup ≡ setup_of script.now) × (k.answers.came ≡ []) × (k.answers.begun ≡ outside) × (k.answers.outside ≡ outside)) }
+    ensures handed { IfOk result (λ k. HasHanded O.did k.answers.begun k.answers.outside k.setup k.answers.came k.log []) }
     ensures same { IfErr result (λ given. given ≡ outside) }
 {
     let Ok(side) = GuestSide::make(alloc, script) else {

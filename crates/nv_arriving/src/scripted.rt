@@ -37,7 +37,7 @@ impl Listed {
 }
 
 impl Answers for Listed {
-    ghost use Rattle.std.specs.Prelude.{true};
+    ghost use Rattle.std.specs.Prelude.{◌≡◌, [], true};
     ghost use Rattle.nv_kernel.specs.Codes.{setup_code};
     ghost use Rattle.nv_script.specs.Scripts.{Setup};
     ghost use Rattle.nv_arriving.specs.Kernel.{CanServe};
@@ -54,6 +54,9 @@ impl Answers for Listed {
     ghost known = { λ setup _. start_from setup };
 
     ghost stands = { λ l. StandsListed ⟦<Nothing as Outside>⟧.did ⟦<Nothing as Outside>⟧.is_over l.guests };
+
+    // No operator's word comes.
+    ghost handed = { λ _ _ _ lengths. lengths ≡ [] };
 
     ghost is_ready = { λ l. CanServe l.guests };
 

@@ -11,4 +11,5 @@ pub mod Constants
 pub mod Logs
 pub mod Answer
 pub mod Known
+pub mod Hands
 pub mod Tables

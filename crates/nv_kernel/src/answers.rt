@@ -1,9 +1,10 @@
 // What answers a kernel's calls, and keeps no log.
-ghost use Rattle.std.specs.Prelude.{◌≡◌, ◌≤◌, ◌==◌, Bool, true, [], List, length, OnOk, IfOk, IsTrue};
+ghost use Rattle.std.specs.Prelude.{◌≡◌, ◌≤◌, ◌==◌, ◌++◌, ◌∷◌, ℕ, Bool, true, [], List, length, OnOk, IfOk, IsTrue};
 ghost use Rattle.std.specs.Coded.{Coded};
 ghost use Rattle.nv_calls.specs.Calls.{Request, Entry, request};
 ghost use Rattle.nv_calls.specs.Limits.{MOST_BYTES};
-ghost use Rattle.nv_calls.specs.Logs.{Start, live_after, output_of};
+ghost use Rattle.nv_calls.specs.Hands.{with_hand};
+ghost use Rattle.nv_calls.specs.Logs.{Start, live_after, output_of, served};
 ghost use Rattle.nv_calls.specs.Shapes.{IsShaped};
 ghost use Rattle.nv_calls.specs.Learning.{GoesOn};
 ghost use Rattle.nv_script.specs.Scripts.{Setup, is_script};
@@ -32,6 +33,9 @@ pub trait Answers: Send + Drop {
     /// It stands where the calls of this log leave it, over what a script gave.
     ghost stands: { Self → Setup → List Entry → Type 0 };
 
+    /// At the log where it stands, over what a script gave, it answered at just these lengths, in order, that the lead is to be given up.
+    ghost handed: { Self → Setup → List Entry → List ℕ → Type 0 };
+
     /// A kernel over it keeps each event of its log, and not the last one alone.
     ghost keeps_all: { Bool };
 
@@ -44,6 +48,7 @@ pub trait Answers: Send + Drop {
         ensures start { (setup : Setup) → start setup self.new ≡ start setup self.old }
         ensures stands { (setup : Setup) (log : List Entry) → stands self.old setup log → stands self.new setup log }
         ensures known { (setup : Setup) (log : List Entry) → stands self.old setup log → GoesOn log (known setup self.old) (known setup self.new) }
+        ensures handed { (setup : Setup) (log : List Entry) (lengths : List ℕ) → stands self.old setup log → handed self.old setup log lengths → handed self.new setup log lengths }
         ensures ready { OnOk result (is_ready self.new (request call.now)) };
 
     /// The result of a call, with the bytes that it hands out.
@@ -55,15 +60,16 @@ pub trait Answers: Send + Drop {
         ensures start { (setup : Setup) → start setup self.new ≡ start setup self.old }
         ensures known { (setup : Setup) → known setup self.new ≡ known setup self.old }
         ensures answer { IsAnswer (λ setup. known setup self.old) (stands self.old) (stands self.new) (request call.now) result out.new.bytes }
+        ensures handed { (setup : Setup) (log : List Entry) (lengths : List ℕ) → stands self.old setup log → handed self.old setup log lengths → handed self.new setup (log ++ served (known setup self.old) log (request call.now) ∷ []) lengths }
         ensures capacity { out.new.capacity ≡ out.old.capacity }
         ensures few { length out.new.bytes ≤ most_out (request call.now) };
 
-    /// Whether the leader is to give up the lead at this length of the log by an operator's word, which is taken then. Any answer is
-    /// right: where leaders gave up the lead is told by what they led.
+    /// Whether the leader is to give up the lead at this length of the log by an operator's word, which is taken then.
     fn hands_over(&mut self, _length: usize) -> bool
         ensures start { (setup : Setup) → start setup self.new ≡ start setup self.old }
         ensures stands { (setup : Setup) (log : List Entry) → stands self.old setup log → stands self.new setup log }
         ensures known { (setup : Setup) → known setup self.new ≡ known setup self.old }
+        ensures handed { (setup : Setup) (log : List Entry) (lengths : List ℕ) → handed self.old setup log lengths → handed self.new setup log (with_hand result _length lengths) }
     {
         false
     }

@@ -140,6 +140,8 @@ impl<A: Answers> SyscallKernel for Kernel<A> {
 
     ghost known = { λ k. A.known k.setup k.answers };
 
+    ghost handed = { λ k. A.handed k.answers k.setup k.log };
+
     ghost is_ready = { IsReady A.is_ready };
 
     fn reserve(&mut self, call: &Call) -> Result<(), AllocError> {

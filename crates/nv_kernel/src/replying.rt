@@ -6,7 +6,7 @@ use nv_script::Script;
 use std::alloc::{AllocError, Global};
 
 impl Answers for Devices {
-    ghost use Rattle.std.specs.Prelude.{true};
+    ghost use Rattle.std.specs.Prelude.{◌≡◌, [], true};
     ghost use Rattle.nv_script.specs.Scripts.{Setup};
     ghost use Rattle.nv_kernel.specs.Codes.{setup_code};
     ghost use Rattle.nv_kernel.specs.Reserved.{state_of, CanAnswer};
@@ -24,6 +24,9 @@ impl Answers for Devices {
     ghost known = { λ setup _. start_of_script setup };
 
     ghost stands = { λ d. IsWhole (λ setup log. StandsAt setup log (state_of d)) d.files.gone };
+
+    // No operator's word comes.
+    ghost handed = { λ _ _ _ lengths. lengths ≡ [] };
 
     ghost is_ready = { λ d c. CanAnswer d.files c };
 

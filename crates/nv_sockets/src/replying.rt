@@ -6,7 +6,7 @@ use nv_script::Script;
 use std::alloc::{AllocError, Global};
 
 impl Answers for Host {
-    ghost use Rattle.std.specs.Prelude.{true};
+    ghost use Rattle.std.specs.Prelude.{◌≡◌, [], true};
     ghost use Rattle.nv_script.specs.Scripts.{Setup};
     ghost use Rattle.nv_kernel.specs.Codes.{setup_code};
     ghost use Rattle.nv_sockets.specs.Kernel.{HostStands, CanServe};
@@ -22,6 +22,9 @@ impl Answers for Host {
     ghost known = { λ setup _. start_of_script setup };
 
     ghost stands = { λ h setup log. HostStands setup log h };
+
+    // No operator's word comes.
+    ghost handed = { λ _ _ _ lengths. lengths ≡ [] };
 
     ghost is_ready = { CanServe };
 

@@ -1,11 +1,13 @@
-use Rattle.std.proofs.Common.{rules, to_z, of_z, w32, ℤ, ◌≡◌, ◌∙◌, sym, ap, subst, refl, false, ◌+◌, ◌<◌, ◌≤◌, List, length, map, take, drop, option_map, arith}
+use Rattle.std.proofs.Common.{rules, to_z, of_z, w32, ℤ, ◌≡◌, ◌∙◌, sym, ap, subst, refl, false, ℕ, ◌+◌, ◌<◌, ◌≤◌, List, [], ◌∷◌, ◌++◌, length, map, take, drop, option_map, arith}
 use Rattle.std.proofs.lemmas.List.{length-take, length-drop}
 use Rattle.nv_calls.specs.Answer.{Answer}
-use Rattle.nv_calls.specs.Calls.{Request, request}
+use Rattle.nv_calls.specs.Calls.{Request, Entry, request}
+use Rattle.nv_calls.specs.Logs.{served}
 use Rattle.nv_calls.specs.Numbers.{syscall_of}
 use Rattle.nv_kernel.specs.Answering.{IsAnswer}
 use Rattle.nv_kernel.specs.Reserved.{CanAnswer}
 use Rattle.nv_sockets.specs.Reserved.{CanSend}
+use Rattle.nv_script.specs.Scripts.{Setup}
 use Rattle.nv_script.specs.declared.arrival.Arrival as code
 use Rattle.nv_script.specs.Arrivals.{Arrival}
 use Rattle.nv_script.specs.Doings.{Says}
@@ -20,10 +22,10 @@ use Rattle.nv_arriving.specs.Kernel.{Coming, intake_of}
 use Rattle.nv_arriving.specs.Reserved.{CanTakeIn}
 use Rattle.nv_arriving.specs.Standing.{StandsAt}
 use Rattle.nv_arriving.specs.Said.{said_of}
-use Rattle.nv_arriving.specs.Telling.{Adds}
+use Rattle.nv_arriving.specs.Telling.{Adds, HasHanded}
 use Rattle.nv_arriving.specs.Views.{standing_of, room_of}
 use Rattle.nv_arriving.proofs.Kept.{drop_more, intake_inside, first_is}
-use Rattle.nv_arriving.proofs.Standings.{few_served, few_clones, is_answer}
+use Rattle.nv_arriving.proofs.Standings.{few_served, few_clones, hands_served, is_answer}
 use Rattle.nv_arriving.proofs.Telling.{says_is}
 use Rattle.nv_arriving.proofs.answering.GuestsAnswers.answer.Given.{Over}
 use Rattle.nv_arriving.proofs.answering.GuestsAnswers.answer.Goals.{After-pass}
@@ -149,6 +151,11 @@ module _ (g : Over) (c : After-pass g) where
   is : IsAnswer (λ setup. start_of_arrivals setup came) (StandsAt g.O.Outside.did g.O.Outside.is_over was) (StandsAt g.O.Outside.did g.O.Outside.is_over now) call c.answer_by-outcome.result.ret c.answer_by-outcome.new.out.bytes
   is = is_answer g.O.Outside.did g.O.Outside.is_over was now call c.answer_by-outcome.result.ret c.answer_by-outcome.new.out.bytes c.requires.shaped refl refl refl answer next waits says c.say.ensures.stays
 
+  handed : (setup : Setup) (log : List Entry) (lengths : List ℕ) → StandsAt g.O.Outside.did g.O.Outside.is_over was setup log → HasHanded g.O.Outside.did was.begun was.outside setup came log lengths
+      → HasHanded g.O.Outside.did was.begun now.outside setup (map arrival_of c.pass.new.came.items) (log ++ served (start_of_arrivals setup came) log call ∷ []) lengths
+  handed setup log lengths s h = subst (λ (z : List code.Arrival). HasHanded g.O.Outside.did was.begun now.outside setup (map arrival_of z) (log ++ served (start_of_arrivals setup came) log call ∷ []) lengths) (sym c.pass.ensures.items)
+      (hands_served g.O.Outside.did g.O.Outside.is_over was now call c.answer_by-outcome.result.ret c.answer_by-outcome.new.out.bytes c.requires.shaped refl refl refl answer next waits says c.say.ensures.stays setup log s lengths h)
+
   inside : c.self.inside.used + c.self.inside.intake.count ≤ length c.self.inside.came.items
   inside = intake_inside mine.here call c.self.inside.came.items c.self.inside.used c.self.inside.intake c.self.invariant.0 found
 
@@ -164,6 +171,13 @@ returns-clause-answer g c =
     subst (λ (r : ℤ). IsAnswer (λ setup. start_of_arrivals setup c.args.self.now.came) (StandsAt g.O.Outside.did g.O.Outside.is_over c.args.self.now) (StandsAt g.O.Outside.did g.O.Outside.is_over (now_where g here c.pass.new.came.items)) (call g here) r c.answer_by-outcome.new.out.bytes) (sym back)
     (subst (λ (k : Coming g.row.O.Denot). IsAnswer (λ setup. start_of_arrivals setup k.came) (StandsAt g.O.Outside.did g.O.Outside.is_over k) (StandsAt g.O.Outside.did g.O.Outside.is_over (now_where g here c.pass.new.came.items)) (call g here) c.answer_by-outcome.result.ret c.answer_by-outcome.new.out.bytes)
     c.self.view_is (kept g here))
+
+pub returns-clause-handed : goal.returns-clause-handed
+returns-clause-handed g c = λ setup log lengths.
+    let here = (goal.at.returns-clause-handed g c).After-pass in
+    subst (λ (k : Coming g.row.O.Denot). StandsAt g.O.Outside.did g.O.Outside.is_over k setup log → HasHanded g.O.Outside.did k.begun k.outside setup k.came log lengths
+    → HasHanded g.O.Outside.did c.self.inside.begun.value c.say.new.outside setup (map arrival_of c.pass.new.came.items) (log ++ served (start_of_arrivals setup k.came) log (call g here) ∷ []) lengths)
+    c.self.view_is (handed g here setup log lengths)
 
 pub returns-clause-known : goal.returns-clause-known
 returns-clause-known g c = λ setup. ap (λ (z : List code.Arrival). start_of_arrivals setup (map arrival_of z)) c.pass.ensures.items ∙ ap (λ (k : Coming g.row.O.Denot). start_of_arrivals setup k.came) c.self.view_is

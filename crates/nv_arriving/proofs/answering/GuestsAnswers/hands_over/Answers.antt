@@ -3,8 +3,10 @@ use Rattle.nv_script.specs.Arrivals.{Arrival}
 use Rattle.nv_script.specs.ArrivalViews.{view as arrival_of}
 use Rattle.nv_arriving.specs.Kernel.{Coming}
 use Rattle.nv_arriving.specs.Standing.{StandsAt}
+use Rattle.nv_arriving.specs.Telling.{HasHanded}
 use Rattle.nv_arriving.specs.Views.{standing_of, room_of}
 use Rattle.nv_arriving.proofs.Standings.{stands_asked}
+use Rattle.nv_arriving.proofs.Told.{handed_asked}
 use Rattle.nv_arriving.proofs.answering.GuestsAnswers.hands_over.Goals as goal
 
 pub returns-clause-stands : goal.returns-clause-stands
@@ -20,5 +22,10 @@ returns-clause-stands g c = λ setup log s.
       keeps = c.self.inside.keeps;
       room = room_of c.self.inside.side;
     } in
-    stands_asked g.O.Outside.did g.O.Outside.is_over was c.hands_over.new.self c.hands_over.result c.args.length c.hands_over.ensures.told c.hands_over.ensures.stays setup log
+    stands_asked g.O.Outside.did g.O.Outside.is_over was c.hands_over.new.self c.hands_over.result _ c.hands_over.ensures.told c.hands_over.ensures.stays setup log
     (subst (λ (k : Coming g.row.O.Denot). StandsAt g.O.Outside.did g.O.Outside.is_over k setup log) (sym c.self.view_is) s)
+
+pub returns-clause-handed : goal.returns-clause-handed
+returns-clause-handed g c = λ setup log lengths h.
+    handed_asked g.O.Outside.did c.self.inside.begun.value setup (map arrival_of c.self.inside.came.items) log c.self.inside.outside c.hands_over.new.self c.hands_over.result _ c.hands_over.ensures.told lengths
+    (subst (λ (k : Coming g.row.O.Denot). HasHanded g.O.Outside.did k.begun k.outside setup k.came log lengths) (sym c.self.view_is) h)

@@ -1,4 +1,4 @@
-use Rattle.std.proofs.Common.{◌≡◌, ◌≤◌, ap, sym, subst, true, false, List, length, map, take, drop, arith}
+use Rattle.std.proofs.Common.{◌≡◌, ◌≤◌, ap, sym, subst, true, false, ℕ, List, length, map, take, drop, arith}
 use Rattle.std.proofs.lemmas.List.{length-map}
 use Rattle.nv_calls.specs.Calls.{Entry, Request, request}
 use Rattle.nv_calls.proofs.ShapeLaws.{shaped-few}
@@ -12,9 +12,10 @@ use Rattle.nv_arriving.specs.declared.waiting.Intake.{Intake}
 use Rattle.nv_arriving.specs.Kernel.{Coming, intake_of}
 use Rattle.nv_arriving.specs.Reserved.{Room, CanTakeIn}
 use Rattle.nv_arriving.specs.Standing.{StandsAt}
+use Rattle.nv_arriving.specs.Telling.{HasHanded}
 use Rattle.nv_arriving.specs.Views.{standing_of, room_of}
 use Rattle.nv_arriving.proofs.Kept.{first_is}
-use Rattle.nv_arriving.proofs.Standings.{stands_heard, goes_heard}
+use Rattle.nv_arriving.proofs.Standings.{stands_heard, hands_heard, goes_heard}
 use Rattle.nv_arriving.proofs.answering.GuestsAnswers.reserve.Given.{Over}
 use Rattle.nv_arriving.proofs.answering.GuestsAnswers.reserve.Goals.{After-learn}
 use Rattle.nv_arriving.proofs.answering.GuestsAnswers.reserve.Goals as goal
@@ -59,11 +60,22 @@ module _ (g : Over) (c : After-learn g) where
       c.self.inside.over c.learn.new.over c.self.inside.keeps (room_of c.self.inside.side) (room_of c.self.inside.side) few c.learn.ensures.over same c.learn.ensures.grew c.learn.ensures.did c.learn.ensures.ended setup log
       (subst (λ (k : Coming g.row.O.Denot). StandsAt g.O.Outside.did g.O.Outside.is_over k setup log) (sym c.self.view_is) s))
 
+  hands : (setup : Setup) (log : List Entry) (lengths : List ℕ) → StandsAt g.O.Outside.did g.O.Outside.is_over c.args.self.now setup log
+      → HasHanded g.O.Outside.did c.args.self.now.begun c.args.self.now.outside setup c.args.self.now.came log lengths → HasHanded g.O.Outside.did c.self.inside.begun.value c.learn.new.outside setup now log lengths
+  hands setup log lengths s h =
+      hands_heard g.O.Outside.did g.O.Outside.is_over c.self.inside.begun.value c.self.inside.outside c.learn.new.outside before now c.self.inside.intake c.self.inside.intake (standing_of c.self.inside.side) c.self.inside.used
+      c.self.inside.over c.learn.new.over c.self.inside.keeps (room_of c.self.inside.side) (room_of c.self.inside.side) few c.learn.ensures.over same c.learn.ensures.grew c.learn.ensures.did c.learn.ensures.ended setup log lengths
+      (subst (λ (k : Coming g.row.O.Denot). StandsAt g.O.Outside.did g.O.Outside.is_over k setup log) (sym c.self.view_is) s)
+      (subst (λ (k : Coming g.row.O.Denot). HasHanded g.O.Outside.did k.begun k.outside setup k.came log lengths) (sym c.self.view_is) h)
+
 pub returns-in_err-self-inside-clause-stands : goal.returns-in_err-self-inside-clause-stands
 returns-in_err-self-inside-clause-stands g c = stands g (goal.at.returns-in_err-self-inside-clause-stands g c).After-learn c.self.inside.intake (room_of c.self.inside.side)
 
 pub returns-in_err-self-inside-clause-known : goal.returns-in_err-self-inside-clause-known
 returns-in_err-self-inside-clause-known g c = goes g (goal.at.returns-in_err-self-inside-clause-known g c).After-learn
+
+pub returns-in_err-self-inside-clause-handed : goal.returns-in_err-self-inside-clause-handed
+returns-in_err-self-inside-clause-handed g c = hands g (goal.at.returns-in_err-self-inside-clause-handed g c).After-learn
 
 pub returns-in_err-reserve-clause-stands : goal.returns-in_err-reserve-clause-stands
 returns-in_err-reserve-clause-stands g c = λ setup log s.
@@ -73,6 +85,9 @@ returns-in_err-reserve-clause-stands g c = λ setup log s.
 pub returns-in_err-reserve-clause-known : goal.returns-in_err-reserve-clause-known
 returns-in_err-reserve-clause-known g c = goes g (goal.at.returns-in_err-reserve-clause-known g c).After-learn
 
+pub returns-in_err-reserve-clause-handed : goal.returns-in_err-reserve-clause-handed
+returns-in_err-reserve-clause-handed g c = hands g (goal.at.returns-in_err-reserve-clause-handed g c).After-learn
+
 pub returns-clause-stands : goal.returns-clause-stands
 returns-clause-stands g c = λ setup log s.
     subst (λ (z : Standing). StandsAt g.O.Outside.did g.O.Outside.is_over (record (heard g (goal.at.returns-clause-stands g c).After-learn c.in_ok-self-inside.field-0 (room_of c.reserve.new.self)) { stage = record { here = z; rest = drop c.self.inside.used (now g (goal.at.returns-clause-stands g c).After-learn) } }) setup log) (sym c.reserve.ensures.standing)
@@ -80,6 +95,9 @@ returns-clause-stands g c = λ setup log s.
 
 pub returns-clause-known : goal.returns-clause-known
 returns-clause-known g c = goes g (goal.at.returns-clause-known g c).After-learn
+
+pub returns-clause-handed : goal.returns-clause-handed
+returns-clause-handed g c = hands g (goal.at.returns-clause-handed g c).After-learn
 
 pub returns-clause-ready : goal.returns-clause-ready
 returns-clause-ready g c =

@@ -1,8 +1,9 @@
 use Rattle.std.proofs.Common.{◌≡◌, ◌∙◌, ◌<◌, ℕ, List, length, ap, sym, subst, refl, None, map, arith}
-use Rattle.nv_calls.specs.Calls.{entry, request}
+use Rattle.nv_calls.specs.Calls.{Entry, entry, request}
 use Rattle.nv_calls.proofs.ShapeLaws.{shaped-few}
 use Rattle.nv_script.specs.Views.{setup_of}
 use Rattle.nv_calls.proofs.LearningLaws.{goes_on_same}
+use Rattle.nv_kernel.specs.Logged.{Logged}
 use Rattle.nv_kernel.proofs.Logging.{logged_on}
 use Rattle.nv_kernel.proofs.kernel.KernelSyscallKernel.reserve.Goals as goal
 
@@ -39,3 +40,20 @@ invariant_of-self-2 g c = let k = c.self.invariant in let h = ap (map entry) c.r
   last c.self.inside.log.items c.reserve.new.self.items c.self.inside.log.gone c.reserve.new.self.gone c.reserve.ensures.items c.reserve.ensures.gone k.3,
   (λ all. c.reserve.ensures.gone ∙ k.4 all),
 )
+
+pub returns-in_err-reserve-clause-handed : goal.returns-in_err-reserve-clause-handed
+returns-in_err-reserve-clause-handed g c = λ lengths h.
+    subst (λ (log : List Entry). g.A.Answers.handed c.self.inside.answers (setup_of c.self.inside.script.value) log lengths) (sym (ap (map entry) c.reserve.ensures.items))
+    (subst (λ (k : Logged g.row.A.Denot). g.A.Answers.handed k.answers k.setup k.log lengths) (sym c.self.view_is) h)
+
+pub returns-in_err-reserve-2-clause-handed : goal.returns-in_err-reserve-2-clause-handed
+returns-in_err-reserve-2-clause-handed g c = λ lengths h.
+    let setup = setup_of c.self.inside.script.value in
+    subst (λ (log : List Entry). g.A.Answers.handed c.reserve-2.new.self setup log lengths) (sym (ap (map entry) c.reserve.ensures.items))
+    (c.reserve-2.ensures.handed setup _ lengths c.self.invariant.1 (subst (λ (k : Logged g.row.A.Denot). g.A.Answers.handed k.answers k.setup k.log lengths) (sym c.self.view_is) h))
+
+pub returns-clause-handed : goal.returns-clause-handed
+returns-clause-handed g c = λ lengths h.
+    let setup = setup_of c.self.inside.script.value in
+    subst (λ (log : List Entry). g.A.Answers.handed c.reserve-2.new.self setup log lengths) (sym (ap (map entry) c.reserve.ensures.items))
+    (c.reserve-2.ensures.handed setup _ lengths c.self.invariant.1 (subst (λ (k : Logged g.row.A.Denot). g.A.Answers.handed k.answers k.setup k.log lengths) (sym c.self.view_is) h))

@@ -80,3 +80,8 @@ invariant_of-self g c = (
 
 pub returns-clause-log : goal.returns-clause-log
 returns-clause-log g c = all g c ∙ ap (λ (k : Logged g.row.A.Denot). k.log ++ served (g.A.Answers.known k.setup k.answers) k.log (call g c) ∷ []) c.self.view_is
+
+pub returns-clause-handed : goal.returns-clause-handed
+returns-clause-handed g c = λ lengths h.
+    subst (λ (z : List Entry). g.A.Answers.handed c.answer-ret.new.self (setup g c) z lengths) (sym (all g c))
+    (c.answer-ret.ensures.handed (setup g c) (log g c) lengths c.self.invariant.1 (subst (λ (k : Logged g.row.A.Denot). g.A.Answers.handed k.answers k.setup k.log lengths) (sym c.self.view_is) h))
