@@ -4,7 +4,7 @@ ghost use Rattle.nv_calls.specs.Logs.{live_after};
 ghost use Rattle.nv_words.specs.Spelling.{spell};
 ghost use Rattle.nv_room.specs.Owner.{is_free, is_closed, owner_at};
 ghost use Rattle.nv_room.specs.Steps.{as_leaving, as_gone};
-ghost use Rattle.nv_room.specs.Seats.{IsOfRoom, IsLeadOf, IsLeftOf, view, lead_view, left_view, station_of_reader, version_of_reader, station_of_lead, version_of_lead, station_of_left, version_of_left, kernel_of, due_of};
+ghost use Rattle.nv_room.specs.Seats.{IsOfRoom, IsLeadOf, IsLeftOf, view, lead_view, left_view, station_of_reader, version_of_reader, station_of_lead, version_of_lead, station_of_left, version_of_left, kernel_of, due_of, AskedSoFar};
 
 use nv_calls::SyscallKernel;
 use nv_room::{Lead, Left, Reader, Room};
@@ -13,6 +13,7 @@ use nv_room::{Lead, Left, Reader, Room};
 pub fn retire<K: SyscallKernel>(lead: Lead<K>, room: &Room<K>) -> Left<K>
     requires of { IsLeadOf room.now lead }
     requires none_due { due_of lead ≡ false }
+    requires asked { AskedSoFar room.now lead }
     ensures of { IsLeftOf room.now result }
     ensures station { (station_of_left result ≡ station_of_lead lead) × (version_of_left result ≡ version_of_lead lead) }
     ensures view { left_view result ≡ as_gone (as_leaving (lead_view lead) (left_view result).owner_last) }
@@ -27,6 +28,7 @@ pub fn retire<K: SyscallKernel>(lead: Lead<K>, room: &Room<K>) -> Left<K>
 pub fn close<K: SyscallKernel>(lead: Lead<K>, room: &Room<K>) -> Left<K>
     requires of { IsLeadOf room.now lead }
     requires none_due { due_of lead ≡ false }
+    requires asked { AskedSoFar room.now lead }
     requires ended { live_after (K.log (kernel_of lead)) ≡ [] }
     ensures of { IsLeftOf room.now result }
     ensures station { (station_of_left result ≡ station_of_lead lead) × (version_of_left result ≡ version_of_lead lead) }

@@ -3,7 +3,7 @@ ghost use Rattle.std.specs.Prelude.{◌≡◌, ◌<◌, false, length, map, Some
 ghost use Rattle.nv_words.specs.Spelling.{spell};
 ghost use Rattle.nv_room.specs.Steps.{as_lead};
 ghost use Rattle.nv_room.specs.Kinds.{Stepped};
-ghost use Rattle.nv_room.specs.Seats.{IsOfRoom, IsLeadOf, SameReader, stations_of, view, lead_view, station_of_reader, version_of_reader, station_of_lead, version_of_lead, kernel_of, due_of, origin};
+ghost use Rattle.nv_room.specs.Seats.{IsOfRoom, IsLeadOf, SameReader, stations_of, view, lead_view, station_of_reader, version_of_reader, station_of_lead, version_of_lead, kernel_of, due_of, origin, AskedSoFar};
 ghost use Rattle.nv_promotion.specs.Lowers.{KeepsMarks, IsLower};
 
 use nv_calls::SyscallKernel;
@@ -43,10 +43,11 @@ pub fn take<K: SyscallKernel>(reader: Reader<K>, room: &Room<K>) -> Lead<K>
     requires freed { (view reader).freed ≡ Some (length (view reader).seen) }
     ensures of { IsLeadOf room.now result }
     ensures station { (station_of_lead result ≡ station_of_reader reader) × (version_of_lead result ≡ version_of_reader reader) }
-    ensures view { lead_view result ≡ as_lead (view reader) }
+    ensures view { lead_view result ≡ as_lead (lead_view result).asked (view reader) }
     ensures due { due_of result ≡ false }
     ensures log { map spell (K.log (kernel_of result)) ≡ (view reader).seen }
     ensures start { K.start (kernel_of result) ≡ K.start (origin room.now) }
+    ensures asked { AskedSoFar room.now result }
 {
     room.take_step(reader)
 }

@@ -142,17 +142,17 @@ module _ (ts : List Tag) (id m k : ℕ) (es : List ℕ) (a b : Role) (live : Liv
       (λ (f' : (h ≡ length us) × (Path Tag (b, m, k, []) y)). e'.0 ∙ sym f'.0) (at_end us (b, m, k, []) y h f))
       (at_end us (b, m, k, []) x j e)
 
-module _ {K B : Type 0} (hist : K → List Entry) (beg : K → B) (p : Layout K) where
+module _ {K : Type 0} (hist : K → List Entry) (came : K → K → List ℕ → Type 0) (p : Layout K) where
   abbrev St : Type 0
   St = State (Option K) (View K)
 
   abbrev RuleOf : St → Type 0
-  RuleOf = Rule hist beg p
+  RuleOf = Rule hist came p
 
   -- the first seat cuts off the seat of the station that it makes next
   pub splits : (id : ℕ) (v : View K) → v.role ≡ Reader → v.version ≡ 0 → v.station ≡ 0 → v.opened ≡ p.versions → 0 < v.made → v.made < p.versions → v.ended ≡ [] → Splits RuleOf id v (one_made v) (reader_of v)
-  splits id v role zeroth at_zero all pos near ended s r at = let n : ℕ = p.stations in let c : ℕ = p.places in let kn = r.each_seat id v at in let pl = r.common.places in let m : Moment = now hist beg p s r in
-      let ir = in_role hist beg p s r id v at Reader role in let se = seated hist beg p s r id v at Reader role tt in
+  splits id v role zeroth at_zero all pos near ended s r at = let n : ℕ = p.stations in let c : ℕ = p.places in let kn = r.each_seat id v at in let pl = r.common.places in let m : Moment = now hist came p s r in
+      let ir = in_role hist came p s r id v at Reader role in let se = seated hist came p s r id v at Reader role tt in
       let vs : List (View K) = set s.views id (one_made v) in let t : ℕ = v.made in let es : List ℕ = map version_of v.ended in
       let mine : cursor s.words v.station ≡ length v.seen = ir.cursor_is_length in let short = prefix_length v.seen r.log kn.seen_is_prefix in let few = pl.log_is_short in
       let low : r.holder ≡ 0 = dite (dec_le 1 r.holder) (λ le. let g = pl.lower_are_gone 0 le in let same : cursor s.words v.station ≡ cursor s.words 0 = ap (cursor s.words) at_zero in absurd (omega arith)) (λ gt. omega arith) in
@@ -211,7 +211,7 @@ module _ {K B : Type 0} (hist : K → List Entry) (beg : K → B) (p : Layout K)
         ready = r.ready;
         common = r.common;
         merge = merge_cut n c s.words r.log r.phase vs (reader_of v)
-            (merge_turned n c s.views id v (one_made v) at s.words s.words r.log r.phase r.merge (λ _ _. refl) (λ e. r.merge.lead_writes id v at e) (λ e. r.merge.notes id v at e) (λ l. r.merge.floors_wide id v at l))
+            (merge_turned n c s.views id v (one_made v) at s.words s.words r.log r.phase r.merge (λ _ _. refl) (λ e. r.merge.lead_tells id v at e) (λ e. r.merge.notes id v at e) (λ l. r.merge.floors_wide id v at l))
             refl (notes_none r.log [] [] refl) (length-replicate (length v.floors) 0 ∙ r.merge.floors_wide id v at (subst Live (sym role) tt));
         held_has_lead = λ e. let h = lead_stays s.views id r.holder v (one_made v) at (λ q. (q, refl)) (r.held_has_lead e) in (h.0, h.1, at_longer vs (reader_of v ∷ []) h.0 h.1 h.2, h.3, h.4);
         one_seat_a_version = subst NoClash (sym path) (apart_split (map tag s.views) id t 0 es Reader Reader tt pos empty (at_map tag s.views id v at ∙ (λ i. some (role i, zeroth i, t, es))) r.one_seat_a_version);
@@ -222,9 +222,9 @@ module _ {K B : Type 0} (hist : K → List Entry) (beg : K → B) (p : Layout K)
 
   -- a seat takes in the seat w, which has left
   pub joins : (id : ℕ) (v : View K) (other : ℕ) (w : View K) → Live v.role → w.role ≡ Gone → Joins RuleOf id v other w (rejoined v w) spent
-  joins id v other w live gone s r at two at' = let n : ℕ = p.stations in let c : ℕ = p.places in let kn = r.each_seat id v at in let m : Moment = now hist beg p s r in
+  joins id v other w live gone s r at two at' = let n : ℕ = p.stations in let c : ℕ = p.places in let kn = r.each_seat id v at in let m : Moment = now hist came p s r in
       let there' : get_elem? s.views other ≡ some w = ⊎_elim (λ (q : (other ≡ id) × (rejoined v w ≡ w)). absurd (two q.0)) (λ (q : (other ≢ id) × (get_elem? s.views other ≡ some w)). q.1) (at_set s.views id other (rejoined v w) w at') in
-      let kw = r.each_seat other w there' in let iw = in_role hist beg p s r other w there' Gone gone in let sw = seated hist beg p s r other w there' Gone gone tt in let se = kn.seated live in
+      let kw = r.each_seat other w there' in let iw = in_role hist came p s r other w there' Gone gone in let sw = seated hist came p s r other w there' Gone gone tt in let se = kn.seated live in
       let vs : List (View K) = set s.views id (rejoined v w) in let es : List ℕ = map version_of v.ended in let gs : List ℕ = map version_of w.ended in let ts : List Tag = map tag s.views in
       let x : Past = past_of w in
       let told : IsPast m x = record { seen_is_prefix = kw.seen_is_prefix; read_begins_next = kw.read_begins_next; last = sw.last; cursor_is_gone = iw.cursor_is_gone; spans_are = sw.spans_are; before_later = iw.before_later } in
@@ -261,7 +261,7 @@ module _ {K B : Type 0} (hist : K → List Entry) (beg : K → B) (p : Layout K)
         common = r.common;
         held_has_lead = λ e. lead_stays vs other r.holder w spent at' (λ q. absurd (subst Leads gone q)) (lead_stays s.views id r.holder v (rejoined v w) at (λ q. (q, refl)) (r.held_has_lead e));
         merge = merge_turned n c vs other w spent at' s.words s.words r.log r.phase
-            (merge_turned n c s.views id v (rejoined v w) at s.words s.words r.log r.phase r.merge (λ _ _. refl) (λ e. r.merge.lead_writes id v at e) (λ e. r.merge.notes id v at e) (λ l. r.merge.floors_wide id v at l))
+            (merge_turned n c s.views id v (rejoined v w) at s.words s.words r.log r.phase r.merge (λ _ _. refl) (λ e. r.merge.lead_tells id v at e) (λ e. r.merge.notes id v at e) (λ l. r.merge.floors_wide id v at l))
             (λ _ _. refl) (λ e. absurd e) (λ (e : Spent ≡ Reader). cc) (λ l. absurd l);
         one_seat_a_version = subst NoClash (sym path)
             (apart_join ts id other v.version v.made w.version w.made es gs v.role w.role live (subst Live (sym gone) tt) (at_map tag s.views id v at) (at_map tag s.views other w there') r.one_seat_a_version);
@@ -272,9 +272,9 @@ module _ {K B : Type 0} (hist : K → List Entry) (beg : K → B) (p : Layout K)
       }
 
   -- the room opens free at 0, with the kernel home
-  pub opens : (ws : List ℕ) (k : K) → hist k ≡ [] → p.start.value ≡ k → 0 < p.versions → p.versions + length (planned hist beg p) ≤ p.stations → p.stations ≤ 16 → 0 < p.places
+  pub opens : (ws : List ℕ) (k : K) → hist k ≡ [] → came p.start.value k [] → 0 < p.versions → p.versions + length (planned hist came p) ≤ p.stations → p.stations ≤ 16 → 0 < p.places
       → length ws ≡ table_words p.stations p.places → get_or ws 0 0 ≡ p.versions * 64 → ((i : ℕ) → i ≢ 0 → get_or ws i 0 ≡ 0) → RuleOf (opening ws (Some k ∷ []) (first p))
-  opens ws k empty same some_version all few pos wide word zeros = let u : ℕ = p.versions in let cur : (z : ℕ) → cursor ws z ≡ 0 = λ z. zeros (cursor_index z) (λ e. omega arith) in let long = length-numbers 0 u in record {
+  opens ws k empty begun some_version all few pos wide word zeros = let u : ℕ = p.versions in let cur : (z : ℕ) → cursor ws z ≡ 0 = λ z. zeros (cursor_index z) (λ e. omega arith) in let long = length-numbers 0 u in record {
     log = [];
     phase = free;
     holder = 0;
@@ -286,7 +286,7 @@ module _ {K B : Type 0} (hist : K → List Entry) (beg : K → B) (p : Layout K)
       log_is_spelt = refl;
       log_is_lawful = lawful_none;
       closed_has_ended = λ e. cc;
-      home = (k, refl, empty, ap beg (sym same));
+      home = (k, refl, empty, begun);
       places = record {
         some_place = pos;
         few_stations = few;
@@ -323,7 +323,7 @@ module _ {K B : Type 0} (hist : K → List Entry) (beg : K → B) (p : Layout K)
     merge = record {
       writing = [];
       stamps = stamps_first p.places (stamp_word p.stations p.places ws) (λ l k. zeros (slot p.stations p.places l k 1) (slot_after p.stations p.places l k 1 0 (omega arith)));
-      lead_writes = λ j v e role. absurd (subst (λ (z : View K). Leads z.role) (sym (one_at (first p) j v e).1) role);
+      lead_tells = λ j v e role. absurd (subst (λ (z : View K). Leads z.role) (sym (one_at (first p) j v e).1) role);
       not_held = λ _. refl;
       notes = λ j v e _. subst (λ (z : View K). Notes [] z.seen z.noted z.missed z.read) (one_at (first p) j v e).1 (notes_none [] [] [] refl);
       floors_wide = λ j v e _. subst (λ (z : View K). length z.floors ≡ p.stations) (one_at (first p) j v e).1 (length-replicate p.stations 0);

@@ -113,10 +113,10 @@ module _ (n c : ℕ) (m : Moment) (i x : ℕ) (pl : Places n c m) (near : i < n)
   own_risen u ne Gone other = tt
   own_risen u ne Spent other = tt
 
-module _ {K B : Type 0} (hist : K → List Entry) (beg : K → B) (p : Layout K) where
+module _ {K : Type 0} (hist : K → List Entry) (came : K → K → List ℕ → Type 0) (p : Layout K) where
   -- what no view enters, where an open station's cursor rises
-  pub common_risen : (homes : List (maybe.Option (Option K))) (m : Moment) (o : Common hist beg p homes m) (i x : ℕ) (near : i < p.stations) (up : cursor m.words i ≤ x) → (x ≤ length m.log) ⊎ (x ≡ GONE)
-      → (m.phase ≡ held → i ≢ m.holder) → i < length m.seating → Common hist beg p homes (risen p.stations p.places m i x o.places near up)
+  pub common_risen : (homes : List (maybe.Option (Option K))) (m : Moment) (o : Common hist came p homes m) (i x : ℕ) (near : i < p.stations) (up : cursor m.words i ≤ x) → (x ≤ length m.log) ⊎ (x ≡ GONE)
+      → (m.phase ≡ held → i ≢ m.holder) → i < length m.seating → Common hist came p homes (risen p.stations p.places m i x o.places near up)
   common_risen homes m o i x near up count unheld inner = record {
     events = o.events;
     log_is_spelt = o.log_is_spelt;
@@ -133,7 +133,7 @@ module _ {K B : Type 0} (hist : K → List Entry) (beg : K → B) (p : Layout K)
   St = State (Option K) (View K)
 
   abbrev RuleOf : St → Type 0
-  RuleOf = Rule hist beg p
+  RuleOf = Rule hist came p
 
   abbrev M : Type 0
   M = Me (Option K) (View K)
@@ -141,11 +141,11 @@ module _ {K B : Type 0} (hist : K → List Entry) (beg : K → B) (p : Layout K)
   pub advances : (slots id new : ℕ) (me : M) → me.0.role ≡ Reader → IsWhole me.0.read → new ≡ length me.0.seen + 1
       → Allows RuleOf slots id me (cursor_index me.0.station) (λ _. new) (λ _. goes_ahead (step slots (cursor_index me.0.station) new 0 none) me new)
   advances slots id new me role full is s r wide at _ = let v = me.0 in let n : ℕ = p.stations in let c : ℕ = p.places in let kn = r.each_seat id v at in let size : ℕ = length v.seen in let pl = r.common.places in
-      let m : Moment = now hist beg p s r in
-      let ir = in_role hist beg p s r id v at Reader role in
-      let se = seated hist beg p s r id v at Reader role tt in
+      let m : Moment = now hist came p s r in
+      let ir = in_role hist came p s r id v at Reader role in
+      let se = seated hist came p s r id v at Reader role tt in
       let i : ℕ = v.station in
-      let near : i < n = role_near hist beg p s r id v at Reader role tt in
+      let near : i < n = role_near hist came p s r id v at Reader role tt in
       let mine : cursor s.words i ≡ size = ir.cursor_is_length in
       let six : 6 ≤ length v.read = full.0 in
       let one = there v.read 0 (omega arith) in
@@ -156,18 +156,18 @@ module _ {K B : Type 0} (hist : K → List Entry) (beg : K → B) (p : Layout K)
       let rd : Prefix v.read e = λ j x f. let y = kn.read_begins_next j x f in subst (λ (z : List ℕ). get_elem? z j ≡ some x) (some-injective y.0 e (sym y.1 ∙ rd0.1)) y.2 in
       let same : v.read ≡ e = whole_same v.read e rd full (pl.event_is_whole size e rd0.1).0 in let entry : get_elem? r.log size ≡ some v.read = rd0.1 ∙ ap some (sym same) in
       let up : cursor s.words i ≤ new = omega arith in let m' : Moment = risen n c m i new pl near up in let w : View K = one_on v in
-      let pre : Prefix (v.seen ++ v.read ∷ []) r.log = prefix_more v.seen v.read r.log kn.seen_is_prefix entry in let on = on_risen n c m i new pl near up (open_near hist beg p s r) in let live : Live v.role = subst Live (sym role) tt in (
+      let pre : Prefix (v.seen ++ v.read ∷ []) r.log = prefix_more v.seen v.read r.log kn.seen_is_prefix entry in let on = on_risen n c m i new pl near up (open_near hist came p s r) in let live : Live v.role = subst Live (sym role) tt in (
         w,
         keeps,
         tt,
-        moved hist beg p s r (cursor_index i) new id me.1 keeps m' v w at
-            (subst NoClash (sym (same_tags hist beg p s.views id v w at refl)) r.one_seat_a_version) (λ e. lead_stays s.views id r.holder v w at (λ q. (q, refl)) (r.held_has_lead e))
+        moved hist came p s r (cursor_index i) new id me.1 keeps m' v w at
+            (subst NoClash (sym (same_tags hist came p s.views id v w at refl)) r.one_seat_a_version) (λ e. lead_stays s.views id r.holder v w at (λ q. (q, refl)) (r.held_has_lead e))
             (common_risen s.homes m r.common i new near up (inl (omega arith)) (λ e. not_held m i r.common.led ir.led_nothing e) (last_near r.seating v.version i se.last)) on
             (λ j u ne f l. (
-              own_risen n c m i new pl near up u (apart_from hist beg p s r j id u v f at ne live l) u.role (former_apart hist beg p s r j id u v f at ne live l i se.last.has),
+              own_risen n c m i new pl near up u (apart_from hist came p s r j id u v f at ne live l) u.role (former_apart hist came p s r j id u v f at ne live l i se.last.has),
               refl,
               (λ z. z),
-              λ t q. cursor_else n c m i new pl near up t (apart_unmade hist beg p s r j id u v f at ne live l t q i se.last.has),
+              λ t q. cursor_else n c m i new pl near up t (apart_unmade hist came p s r j id u v f at ne live l t q i se.last.has),
             )) record {
               seen_is_prefix = pre;
               read_begins_next = λ j x f. absurd (some-ne-none x (sym f));
@@ -187,14 +187,14 @@ module _ {K B : Type 0} (hist : K → List Entry) (beg : K → B) (p : Layout K)
                 opened_least = se.opened_least;
                 last = se.last;
                 spans_are = se.spans_are;
-                unmade_is_new = λ t q. cursor_else n c m i new pl near up t (unmade_apart n p.versions (planned hist beg p) m v.version i v.made t r.common.doors se.last.has q) ∙ se.unmade_is_new t q;
+                unmade_is_new = λ t q. cursor_else n c m i new pl near up t (unmade_apart n p.versions (planned hist came p) m v.version i v.made t r.common.doors se.last.has q) ∙ se.unmade_is_new t q;
                 others_are_gone = λ t has ne out. le_trans (se.others_are_gone t has ne out) (cursor_up n c m i new pl near up t);
               };
               ended_is_past = λ k y f. past_on n m m' y on (kn.ended_is_past k y f);
             }
             (merge_turned n c s.views id v w at s.words (set s.words (cursor_index i) new) r.log r.phase r.merge (second_kept n c (cursor_index i) new s.words (omega arith))
-            (λ e. r.merge.lead_writes id v at e) (λ _. notes_none r.log (v.seen ++ v.read ∷ []) [] refl) (λ l. r.merge.floors_wide id v at l)),
-        (refl, told hist beg p s r (v.seen ++ v.read ∷ []) pre, (let short : len ≤ 500000000 = pl.log_is_short in omega arith)),
+            (λ e. r.merge.lead_tells id v at e) (λ _. notes_none r.log (v.seen ++ v.read ∷ []) [] refl) (λ l. r.merge.floors_wide id v at l)),
+        (refl, told hist came p s r (v.seen ++ v.read ∷ []) pre, (let short : len ≤ 500000000 = pl.log_is_short in omega arith)),
       )
 
   pub advances_at : (slots id k new : ℕ) (me : M) → me.0.role ≡ Reader → IsWhole me.0.read → k ≡ cursor_index me.0.station → new ≡ length me.0.seen + 1
@@ -219,24 +219,24 @@ module _ {K B : Type 0} (hist : K → List Entry) (beg : K → B) (p : Layout K)
   pub leaves : (slots id new : ℕ) (me : M) → (me.0.role ≡ Reader) ⊎ (me.0.role ≡ Leaving) → new ≡ GONE
       → Allows RuleOf slots id me (cursor_index me.0.station) (λ _. new) (λ _. left (step slots (cursor_index me.0.station) new 0 none) me new)
   leaves slots id new me role is s r wide at _ = let v = me.0 in let n : ℕ = p.stations in let c : ℕ = p.places in let kn = r.each_seat id v at in let pl = r.common.places in
-      let m : Moment = now hist beg p s r in let live : Live v.role = ⊎_elim (λ (e : v.role ≡ Reader). subst Live (sym e) tt) (λ (e : v.role ≡ Leaving). subst Live (sym e) tt) role in
-      let se : IsSeated p m v = kn.seated live in let i : ℕ = v.station in let near : i < n = seat_near hist beg p s r id v at live in let len : ℕ = length r.log in let few : len ≤ 500000000 = pl.log_is_short in
+      let m : Moment = now hist came p s r in let live : Live v.role = ⊎_elim (λ (e : v.role ≡ Reader). subst Live (sym e) tt) (λ (e : v.role ≡ Leaving). subst Live (sym e) tt) role in
+      let se : IsSeated p m v = kn.seated live in let i : ℕ = v.station in let near : i < n = seat_near hist came p s r id v at live in let len : ℕ = length r.log in let few : len ≤ 500000000 = pl.log_is_short in
       let stays : v.role ≢ Moving = λ e. ⊎_elim (λ (f : v.role ≡ Reader). let q : Reader ≡ Moving = sym f ∙ e in (let z : ⊥ = cc in z)) (λ (f : v.role ≡ Leaving). let q : Leaving ≡ Moving = sym f ∙ e in (let z : ⊥ = cc in z)) role in
       let may = may_leave m v r.common.led (prefix_length v.seen r.log kn.seen_is_prefix) v.role role kn.in_role in let count : cursor s.words i ≤ len = may.count in
-      let up : cursor s.words i ≤ new = omega arith in let m' : Moment = risen n c m i new pl near up in let w : View K = as_gone v in let on = on_risen n c m i new pl near up (open_near hist beg p s r) in
+      let up : cursor s.words i ≤ new = omega arith in let m' : Moment = risen n c m i new pl near up in let w : View K = as_gone v in let on = on_risen n c m i new pl near up (open_near hist came p s r) in
       let low : r.holder ≤ i = dite (dec_le r.holder i) (λ le. le) (λ gt. let lt : i < r.holder = lt_of_not-le gt in let g = pl.lower_are_gone i lt in absurd (omega arith)) in
-      let tags : NoClash (map tag (set s.views id w)) = subst NoClash (sym (map-set tag s.views id w)) (apart_role hist beg p s r id v Gone at live) in (
+      let tags : NoClash (map tag (set s.views id w)) = subst NoClash (sym (map-set tag s.views id w)) (apart_role hist came p s r id v Gone at live) in (
         w,
         keeps,
         tt,
-        moved hist beg p s r (cursor_index i) new id me.1 keeps m' v w at tags
+        moved hist came p s r (cursor_index i) new id me.1 keeps m' v w at tags
             (λ e. lead_stays s.views id r.holder v w at (λ q. absurd (⊎_elim (λ (f : v.role ≡ Reader). subst Leads f q) (λ (f : v.role ≡ Leaving). subst Leads f q) role)) (r.held_has_lead e))
             (common_risen s.homes m r.common i new near up (inr is) may.unheld (last_near r.seating v.version i se.last)) on
             (λ j u ne f l. (
-              own_risen n c m i new pl near up u (apart_from hist beg p s r j id u v f at ne live l) u.role (former_apart hist beg p s r j id u v f at ne live l i se.last.has),
+              own_risen n c m i new pl near up u (apart_from hist came p s r j id u v f at ne live l) u.role (former_apart hist came p s r j id u v f at ne live l i se.last.has),
               refl,
               (λ z. z),
-              λ t q. cursor_else n c m i new pl near up t (apart_unmade hist beg p s r j id u v f at ne live l t q i se.last.has),
+              λ t q. cursor_else n c m i new pl near up t (apart_unmade hist came p s r j id u v f at ne live l t q i se.last.has),
             )) record {
               seen_is_prefix = kn.seen_is_prefix;
               read_begins_next = kn.read_begins_next;
@@ -255,7 +255,7 @@ module _ {K B : Type 0} (hist : K → List Entry) (beg : K → B) (p : Layout K)
                 opened_least = se.opened_least;
                 last = se.last;
                 spans_are = se.spans_are;
-                unmade_is_new = λ t q. cursor_else n c m i new pl near up t (unmade_apart n p.versions (planned hist beg p) m v.version i v.made t r.common.doors se.last.has q) ∙ se.unmade_is_new t q;
+                unmade_is_new = λ t q. cursor_else n c m i new pl near up t (unmade_apart n p.versions (planned hist came p) m v.version i v.made t r.common.doors se.last.has q) ∙ se.unmade_is_new t q;
                 others_are_gone = λ t has ne out. le_trans (se.others_are_gone t has ne (λ e. absurd (stays e))) (cursor_up n c m i new pl near up t);
               };
               ended_is_past = λ k y f. past_on n m m' y on (kn.ended_is_past k y f);

@@ -8,7 +8,7 @@ use lib.Seq.{map-set}
 use Rattle.std.specs.Prelude.{Option, Some}
 use Rattle.std.specs.Option.{ForSome}
 use Rattle.atomic_table.specs.Table.{State, Me, step, keeps, gives, put_back, homes_after, Allows}
-use Rattle.atomic_table.proofs.Lists.{set_here, at_longer}
+use Rattle.atomic_table.proofs.Lists.{set_here, at_longer, at_set}
 use Rattle.nv_calls.specs.Calls.{Entry}
 use Rattle.nv_calls.specs.Logs.{IsLawful}
 use Rattle.nv_words.specs.Spelling.{spell}
@@ -20,18 +20,19 @@ use Rattle.nv_room.specs.declared.view.Role.TheVariants.{Reader, Lead, Opening, 
 use Rattle.nv_room.specs.Header.{cursor_index}
 use Rattle.nv_room.specs.Owner.{GONE, Phase, held, free, owner_word, owner_at}
 use Rattle.nv_room.specs.Spans.{Tiles, Rising, of_station, of_version, handed_on, LastHasEvent, IsLastStation, Opened}
-use Rattle.nv_room.specs.Planned.{below}
+use Rattle.nv_room.specs.Planned.{below, asked_in, asked_then}
 use Rattle.nv_room.specs.Room.{cursor, Moment, as_of, Places, Doors, Turns, Led, Live, Leads, Has, MayHand, tag, NoClash, IsKernel, AtHome, Rule}
 use Rattle.nv_room.specs.Steps.{spare, as_opening, opens, as_moving, hands_over, as_reader, moves_over as moved_on}
 use Rattle.nv_room.proofs.Lists.{at_below, at_end, set_or}
 use Rattle.nv_room.proofs.Tiling.{last_apart, with_none, tiles_handed, rising_handed, handed_end, opened_handed, last_other, last_new}
 use Rattle.nv_room.proofs.Counts.{below_most, below_planned}
 use Rattle.nv_room.proofs.LastSpan.{Last, last_span, lead_last, begun_last, who_last, others_last, own_last, own_was}
-use Rattle.nv_room.proofs.Merges.{merge_turned, merge_phase, notes_none, second_kept}
+use Rattle.nv_room.proofs.Merges.{merge_turned, merge_phase, notes_none, second_kept, merge_asked}
 use Rattle.nv_room.proofs.Stays.{Onward, Begun, last_near, planned, lead_stays, past_on, now, looked, moved}
 use Rattle.nv_room.proofs.Cursors.{risen, cursor_there, cursor_else, cursor_up, places_risen, on_risen, own_risen, common_risen}
 use Rattle.nv_room.proofs.Hands.{same_cursor, places_owned}
-use Rattle.nv_room.proofs.Seats.{none_above, beside_lead, one_last, unmade_apart, apart_role, apart_version, apart_at, apart_from, apart_unmade, former_apart, in_role, open_near}
+use Rattle.nv_room.proofs.Seats.{none_above, beside_lead, one_last, unmade_apart, apart_role, apart_version, apart_at, apart_from, apart_unmade, former_apart, in_role, open_near, alone}
+use Rattle.nv_room.proofs.Askings.{asked_unhanded, asked_handed, tiles_end}
 
 -- What the last span becomes when it is handed on
 
@@ -59,6 +60,15 @@ module _ (m : Moment) (l : Last m) where
     left_over = λ e. absurd (over e);
   }
 
+  asks_handed : (n versions : ℕ) (hands : List ℕ) → Led m → Turns n versions hands m.phase (length m.log) m.spans m.seating → m.phase ≡ held → LastHasEvent m.spans
+      → asked_in hands (handed_on m.spans) ≡ asked_then hands (length m.log) (asked_in hands m.spans)
+  asks_handed n versions hands led t is h =
+      let same : h.1 ≡ l.last = (last_apart h.0 l.before h.1 l.last (sym h.2 ∙ l.is)).1 in
+      let event : l.last.from < l.last.to = subst (λ (z : Span). z.from < z.to) same h.3 in
+      let end : l.last.to ≡ length m.log = tiles_end 0 (length m.log) l.before l.last (subst (λ (z : List Span). Tiles 0 z (length m.log)) l.is led.tile) in
+      let was : asked_in hands l.before ≡ asked_in hands m.spans = sym (asked_unhanded hands l.before l.last (t.unhanded is l.before l.last l.is)) ∙ ap (asked_in hands) (sym l.is) in
+      ap (asked_in hands) ends ∙ asked_handed hands l.before x' refl event ∙ (λ i. asked_then hands (end i) (was i))
+
   begun_handed : (i : ℕ) (y : Span) → get_elem? (handed_on m.spans) i ≡ some y → Begun m y
   begun_handed i y e = begun_last m l x' refl refl i y (ap (λ (z : List Span). get_elem? z i) (sym ends) ∙ e)
 
@@ -82,30 +92,30 @@ no_words (x ∷ xs) h = absurd (h x refl)
 given : (st o n new : ℕ) → st < 16 → o ≤ 16 → new ≡ owner_word free st o n → owner_at new ≡ n
 given st o n new l b is = let q : new / 2048 ≡ n = omega arith in q
 
-module _ {K B : Type 0} (hist : K → List Entry) (beg : K → B) (p : Layout K) where
+module _ {K : Type 0} (hist : K → List Entry) (came : K → K → List ℕ → Type 0) (p : Layout K) where
   abbrev St : Type 0
   St = State (Option K) (View K)
 
   abbrev RuleOf : St → Type 0
-  RuleOf = Rule hist beg p
+  RuleOf = Rule hist came p
 
   abbrev M : Type 0
   M = Me (Option K) (View K)
 
   -- where a lead that has led an event may hand over, a station is left
-  left_station : (s : St) (r : RuleOf s) (id : ℕ) (v : View K) → get_elem? s.views id ≡ some v → v.role ≡ Lead → MayHand p.stations (planned hist beg p) v.opened (length v.seen) → LastHasEvent v.spans
-      → length r.seating + 1 + length (planned hist beg p) ≤ p.stations + below (planned hist beg p) (length r.log + 1)
-  left_station s r id v at role may led = let m : Moment = now hist beg p s r in let ir = in_role hist beg p s r id v at Lead role in let live : Live v.role = subst Live (sym role) tt in let se = (r.each_seat id v at).seated live in
-      let l : Last m = last_span m r.common.led ir.is_held in let mine = lead_last hist beg p s r id v at live ir.is_holder l in
+  left_station : (s : St) (r : RuleOf s) (id : ℕ) (v : View K) → get_elem? s.views id ≡ some v → v.role ≡ Lead → MayHand p.stations (planned hist came p) v.opened (length v.seen) → LastHasEvent v.spans
+      → length r.seating + 1 + length (planned hist came p) ≤ p.stations + below (planned hist came p) (length r.log + 1)
+  left_station s r id v at role may led = let m : Moment = now hist came p s r in let ir = in_role hist came p s r id v at Lead role in let live : Live v.role = subst Live (sym role) tt in let se = (r.each_seat id v at).seated live in
+      let l : Last m = last_span m r.common.led ir.is_held in let mine = lead_last hist came p s r id v at live ir.is_holder l in
       let a = r.common.turns.left_over ir.is_held (has_led m l v.version mine (subst LastHasEvent se.spans_are led)) in
-      ⊎_elim (λ (plan : Has (planned hist beg p) (length v.seen)). let b = below_planned (planned hist beg p) (length r.log) (subst (Has (planned hist beg p)) ir.seen_is_log plan) in omega arith)
-      (λ (spare : v.opened + length (planned hist beg p) < p.stations + below (planned hist beg p) (length v.seen + 1)).
-      let b = subst (λ (z : ℕ). v.opened + length (planned hist beg p) < p.stations + below (planned hist beg p) (z + 1)) ir.seen_is_log spare in let e = ir.opened_is in omega arith) may
+      ⊎_elim (λ (plan : Has (planned hist came p) (length v.seen)). let b = below_planned (planned hist came p) (length r.log) (subst (Has (planned hist came p)) ir.seen_is_log plan) in omega arith)
+      (λ (spare : v.opened + length (planned hist came p) < p.stations + below (planned hist came p) (length v.seen + 1)).
+      let b = subst (λ (z : ℕ). v.opened + length (planned hist came p) < p.stations + below (planned hist came p) (z + 1)) ir.seen_is_log spare in let e = ir.opened_is in omega arith) may
 
-  pub spares : (slots id k : ℕ) (me : M) → me.0.role ≡ Lead → MayHand p.stations (planned hist beg p) me.0.opened (length me.0.seen) → LastHasEvent me.0.spans → Allows RuleOf slots id me k (λ x. x) (spare (step slots k 0 0 none) me)
-  spares slots id k me role plan led s r wide at _ = let v = me.0 in let kn = r.each_seat id v at in let ir = in_role hist beg p s r id v at Lead role in let live : Live v.role = subst Live (sym role) tt in
+  pub spares : (slots id k : ℕ) (me : M) → me.0.role ≡ Lead → MayHand p.stations (planned hist came p) me.0.opened (length me.0.seen) → LastHasEvent me.0.spans → Allows RuleOf slots id me k (λ x. x) (spare (step slots k 0 0 none) me)
+  spares slots id k me role plan led s r wide at _ = let v = me.0 in let kn = r.each_seat id v at in let ir = in_role hist came p s r id v at Lead role in let live : Live v.role = subst Live (sym role) tt in
       let a = left_station s r id v at role plan led in
-      let b = below_most (planned hist beg p) (length r.log + 1) in
+      let b = below_most (planned hist came p) (length r.log + 1) in
       let c = r.common.doors.all in
       let d = r.merge.floors_wide id v at live in
       let e = ir.opened_is in
@@ -114,18 +124,18 @@ module _ {K B : Type 0} (hist : K → List Entry) (beg : K → B) (p : Layout K)
         v,
         keeps,
         tt,
-        looked hist beg p s r k id me.1 v v at refl (λ q. (q, refl)) kn
-            (merge_turned p.stations p.places s.views id v v at s.words s.words r.log r.phase r.merge (λ _ _. refl) (λ q. r.merge.lead_writes id v at q) (λ q. r.merge.notes id v at q) (λ q. r.merge.floors_wide id v at q)),
+        looked hist came p s r k id me.1 v v at refl (λ q. (q, refl)) kn
+            (merge_turned p.stations p.places s.views id v v at s.words s.words r.log r.phase r.merge (λ _ _. refl) (λ q. r.merge.lead_tells id v at q) (λ q. r.merge.notes id v at q) (λ q. r.merge.floors_wide id v at q)),
         (refl, omega arith, omega arith),
       )
 
   -- the first station that isn't open gets head as its cursor
-  pub opens_next : (slots id new : ℕ) (me : M) → me.0.role ≡ Lead → me.0.wrote ≡ [] → MayHand p.stations (planned hist beg p) me.0.opened (length me.0.seen) → LastHasEvent me.0.spans → new ≡ length me.0.seen
+  pub opens_next : (slots id new : ℕ) (me : M) → me.0.role ≡ Lead → me.0.wrote ≡ [] → MayHand p.stations (planned hist came p) me.0.opened (length me.0.seen) → LastHasEvent me.0.spans → new ≡ length me.0.seen
       → Allows RuleOf slots id me (cursor_index me.0.opened) (λ _. new) (λ _. opens (step slots (cursor_index me.0.opened) new 0 none) me new)
   opens_next slots id new me role quiet plan led is s r wide at _ = let v = me.0 in let n : ℕ = p.stations in let c : ℕ = p.places in let len : ℕ = length r.log in
       let kn = r.each_seat id v at in let pl = r.common.places in let d = r.common.doors in
-      let m : Moment = now hist beg p s r in let ir = in_role hist beg p s r id v at Lead role in let live : Live v.role = subst Live (sym role) tt in let se = kn.seated live in
-      let room = left_station s r id v at role plan led in let most = below_most (planned hist beg p) (len + 1) in
+      let m : Moment = now hist came p s r in let ir = in_role hist came p s r id v at Lead role in let live : Live v.role = subst Live (sym role) tt in let se = kn.seated live in
+      let room = left_station s r id v at role plan led in let most = below_most (planned hist came p) (len + 1) in
       let i : ℕ = v.opened in let here : i ≡ length r.seating = ir.opened_is in let none = ir.none_ready in let all = d.all in let near : i < n = omega arith in
       let off : cursor s.words i ≡ 0 = d.shut i (omega arith) near in let full : length v.seen ≡ len = ir.seen_is_log in
       let up : cursor s.words i ≤ new = omega arith in let there = cursor_there n c m i new pl near up in let ws' : List ℕ = set s.words (cursor_index i) new in
@@ -148,7 +158,7 @@ module _ {K B : Type 0} (hist : K → List Entry) (beg : K → B) (p : Layout K)
         event_is_whole = old.event_is_whole;
         log_is_short = old.log_is_short;
       } in
-      let doors : Doors n p.versions (planned hist beg p) m' = record {
+      let doors : Doors n p.versions (planned hist came p) m' = record {
         all = all;
         least = d.least;
         first = d.first;
@@ -157,14 +167,14 @@ module _ {K B : Type 0} (hist : K → List Entry) (beg : K → B) (p : Layout K)
         shut = λ z a b. cursor_else n c m i new pl near up z (λ e. omega arith) ∙ d.shut z (omega arith) b;
         planned = room;
       } in
-      let o = on_risen n c m i new pl near up (open_near hist beg p s r) in
+      let o = on_risen n c m i new pl near up (open_near hist came p s r) in
       let on : Onward n m m' = record { near = o.near; cursors = o.cursors; longer = o.longer; more = o.more; wider = o.wider; seated = o.seated; begun = o.begun; gone_spans = o.gone_spans; gone_last = o.gone_last } in
       let w : View K = as_opening v in
-      let tags : NoClash (map tag (set s.views id w)) = subst NoClash (sym (map-set tag s.views id w)) (apart_role hist beg p s r id v Opening at live) in (
+      let tags : NoClash (map tag (set s.views id w)) = subst NoClash (sym (map-set tag s.views id w)) (apart_role hist came p s r id v Opening at live) in (
         w,
         keeps,
         tt,
-        moved hist beg p s r (cursor_index i) new id me.1 keeps m' v w at tags (λ e. lead_stays s.views id r.holder v w at (λ q. (tt, refl)) (r.held_has_lead e))
+        moved hist came p s r (cursor_index i) new id me.1 keeps m' v w at tags (λ e. lead_stays s.views id r.holder v w at (λ q. (tt, refl)) (r.held_has_lead e))
             record {
               events = r.common.events;
               log_is_spelt = r.common.log_is_spelt;
@@ -178,7 +188,7 @@ module _ {K B : Type 0} (hist : K → List Entry) (beg : K → B) (p : Layout K)
             }
             on
             (λ j u ne f l. (
-              beside_lead n c m m' u v.station ir.is_held ir.is_holder (λ e. apart_from hist beg p s r j id u v f at ne live l (sym e)) refl
+              beside_lead n c m m' u v.station ir.is_held ir.is_holder (λ e. apart_from hist came p s r j id u v f at ne live l (sym e)) refl
                   (cursor_else n c m i new pl near up u.station (other u.station (last_near r.seating u.version u.station ((r.each_seat j u f).seated l).last))) refl u.role
                   (r.each_seat j u f).in_role,
               refl,
@@ -192,7 +202,7 @@ module _ {K B : Type 0} (hist : K → List Entry) (beg : K → B) (p : Layout K)
               head_seen_at_most_head = kn.head_seen_at_most_head;
               owner_seen_at_most_head = kn.owner_seen_at_most_head;
               opened_at_most_open = kn.opened_at_most_open;
-              in_role = record { is_held = ir.is_held; is_holder = ir.is_holder; seen_is_log = full; wrote_nothing = quiet; opened_is = here; one_ready = refl };
+              in_role = record { is_held = ir.is_held; is_holder = ir.is_holder; seen_is_log = full; wrote_nothing = quiet; opened_is = here; one_ready = refl; event = led };
               seated = λ l. record {
                 start_is = se.start_is;
                 places_are = se.places_are;
@@ -205,13 +215,13 @@ module _ {K B : Type 0} (hist : K → List Entry) (beg : K → B) (p : Layout K)
               ended_is_past = λ k y f. past_on n m m' y on (kn.ended_is_past k y f);
             }
             (merge_turned n c s.views id v w at s.words ws' r.log r.phase r.merge (second_kept n c (cursor_index i) new s.words (omega arith))
-            (λ e. r.merge.lead_writes id v at (subst Leads (sym role) tt)) (λ (e : Opening ≡ Reader). cc) (λ _. r.merge.floors_wide id v at live)),
+            (λ e. r.merge.lead_tells id v at (subst Leads (sym role) tt)) (λ (e : Opening ≡ Reader). cc) (λ _. r.merge.floors_wide id v at live)),
         refl,
       )
 
   -- the kernel goes home, and the new station opens
   pub hands_on : (slots id new : ℕ) (k : K) (me : M) → me.0.role ≡ Opening → me.1 ≡ (0, Some k) ∷ [] → map spell (hist k) ≡ me.0.seen → IsLawful (hist k)
-      → ForSome me.0.start (λ s. beg k ≡ beg s.value) → new ≡ owner_word free me.0.station (me.0.opened + 1) (length me.0.seen)
+      → ForSome me.0.start (λ s. came s.value k (asked_then (planned hist came p) (length me.0.seen) me.0.asked)) → new ≡ owner_word free me.0.station (me.0.opened + 1) (length me.0.seen)
       → Allows RuleOf slots id me 0 (λ _. new) (λ _. hands_over (step slots 0 new 0 none) me new)
   hands_on slots id new k me role carries tells law began is s r wide at _ =
       let v = me.0 in
@@ -221,34 +231,37 @@ module _ {K B : Type 0} (hist : K → List Entry) (beg : K → B) (p : Layout K)
       let pl = r.common.places in
       let d = r.common.doors in
       let len : ℕ = length r.log in
-      let m : Moment = now hist beg p s r in
-      let ir = in_role hist beg p s r id v at Opening role in
+      let m : Moment = now hist came p s r in
+      let ir = in_role hist came p s r id v at Opening role in
       let live : Live v.role = subst Live (sym role) tt in
       let se = kn.seated live in
       let st : ℕ = v.station in
       let ws' : List ℕ = set s.words 0 new in
-      let l : Last m = last_span m r.common.led ir.is_held in let mine : l.last.version ≡ v.version = lead_last hist beg p s r id v at live ir.is_holder l in
+      let l : Last m = last_span m r.common.led ir.is_held in let mine : l.last.version ≡ v.version = lead_last hist came p s r id v at live ir.is_holder l in
       let whos' : List ℕ = r.seating ++ v.version ∷ [] in let wider : length whos' ≡ length r.seating + 1 = length-append r.seating (v.version ∷ []) in
       let spans' : List Span = handed_on r.spans in let m' : Moment = as_of ws' r.log free r.holder spans' whos' r.ready in
       let all : v.seen ≡ r.log = prefix_same v.seen r.log ir.seen_is_log kn.seen_is_prefix in
       let cur : (z : ℕ) → cursor ws' z ≡ cursor s.words z = same_cursor n c m new pl in
-      let one = ir.one_ready in let full = ir.seen_is_log in let fit = open_near hist beg p s r in let here = ir.opened_is in let few = pl.log_is_short in
+      let one = ir.one_ready in let full = ir.seen_is_log in let fit = open_near hist came p s r in let here = ir.opened_is in let few = pl.log_is_short in
       let head : cursor s.words (length r.seating) ≡ len =
       ⊎_elim (λ (q : r.ready ≡ length r.seating). absurd (omega arith)) (λ (q : (r.ready ≡ length r.seating + 1) × (r.phase ≡ held) × (cursor s.words (length r.seating) ≡ len)). q.2) d.ready_is in
       let top = pl.holder_is_open in let over : free ≢ held = λ e. cc in
-      let out : get_elem? s.homes 0 ≡ some none = subst (AtHome hist beg p.start.value r.common.events s.homes) ir.is_held r.common.home in
-      let home : IsKernel hist beg p.start.value (hist k) (homes_after s.homes me.1 gives) =
-      (k, ap (λ (cs : List (ℕ × Option K)). get_elem? (put_back s.homes cs) 0) carries ∙ set_here s.homes 0 (some (Some k)) (at_below s.homes 0 none out), refl, began p.start se.start_is) in
+      let out : get_elem? s.homes 0 ≡ some none = subst (AtHome hist came p.start.value r.common.events (asked_in (planned hist came p) r.spans) s.homes) ir.is_held r.common.home in
+      let asks : asked_then (planned hist came p) (length v.seen) v.asked ≡ asked_in (planned hist came p) spans' =
+      (λ i. asked_then (planned hist came p) (ir.seen_is_log i) ((r.merge.lead_tells id v at (subst Leads (sym role) tt)).1 i))
+      ∙ sym (asks_handed m l p.stations p.versions (planned hist came p) r.common.led r.common.turns ir.is_held (has_led m l v.version mine (subst LastHasEvent se.spans_are ir.event))) in
+      let home : IsKernel hist came p.start.value (hist k) (asked_in (planned hist came p) spans') (homes_after s.homes me.1 gives) =
+      (k, ap (λ (cs : List (ℕ × Option K)). get_elem? (put_back s.homes cs) 0) carries ∙ set_here s.homes 0 (some (Some k)) (at_below s.homes 0 none out), refl, subst (came p.start.value k) asks (began p.start se.start_is)) in
       let counts : cursor s.words r.holder ≤ len = pl.lead_counts ir.is_held in
       let places : Places n c m' =
       places_owned n c m new pl free r.holder spans' whos' r.ready (is ∙ (λ i. owner_word free (ir.is_holder i) ((let q : v.opened + 1 ≡ length whos' = omega arith in q) i) (full i)))
       (omega arith) pl.lower_are_gone (λ e. absurd (over e))
       (λ z ne l. dite (ℕ_discrete z (length r.seating)) (λ e. inr (let q : cursor s.words z ≡ cursor s.words (length r.seating) = ap (cursor s.words) e in omega arith)) (λ ne'. inl (ne, omega arith))) in
       let led : Led m' = led_handed m l ws' free whos' r.ready r.common.led in
-      let turns : Turns p.stations p.versions (planned hist beg p) free len spans' whos' =
-      subst (λ (z : ℕ). Turns p.stations p.versions (planned hist beg p) free len spans' (r.seating ++ z ∷ [])) mine (turns_handed m l p.stations p.versions (planned hist beg p) free len r.common.turns ir.is_held over
+      let turns : Turns p.stations p.versions (planned hist came p) free len spans' whos' =
+      subst (λ (z : ℕ). Turns p.stations p.versions (planned hist came p) free len spans' (r.seating ++ z ∷ [])) mine (turns_handed m l p.stations p.versions (planned hist came p) free len r.common.turns ir.is_held over
       (subst (λ (z : ℕ). IsLastStation r.seating z l.last.station) (sym mine) (subst (λ (z : ℕ). IsLastStation r.seating v.version z) (ir.is_holder ∙ sym l.holders) se.last))) in
-      let doors : Doors n p.versions (planned hist beg p) m' = record {
+      let doors : Doors n p.versions (planned hist came p) m' = record {
         all = d.all;
         least = let a = d.least in omega arith;
         first = λ z b. at_longer r.seating (v.version ∷ []) z z (d.first z b);
@@ -273,21 +286,21 @@ module _ {K B : Type 0} (hist : K → List Entry) (beg : K → B) (p : Layout K)
         gone_spans = λ x z a g. versions_handed m l x (λ e. at_lead x z a g (sym mine ∙ e));
         gone_last = λ x z a g. last_other r.seating x v.version z (at_lead x z a g) a;
       } in
-      let quiet : r.merge.writing ≡ [] = sym (r.merge.lead_writes id v at (subst Leads (sym role) tt)) ∙ ir.wrote_nothing in
+      let quiet : r.merge.writing ≡ [] = sym ((r.merge.lead_tells id v at (subst Leads (sym role) tt)).0) ∙ ir.wrote_nothing in
       let unread : v.read ≡ [] = no_words v.read (λ x e. let q = kn.read_begins_next 0 x e in let b = at_below r.log (length v.seen) q.0 q.1 in omega arith) in
       let w : View K = as_moving v new in
-      let tags : NoClash (map tag (set s.views id w)) = subst NoClash (sym (map-set tag s.views id w)) (apart_role hist beg p s r id v Moving at live) in (
+      let tags : NoClash (map tag (set s.views id w)) = subst NoClash (sym (map-set tag s.views id w)) (apart_role hist came p s r id v Moving at live) in (
         w,
         gives,
         tt,
-        moved hist beg p s r 0 new id me.1 gives m' v w at tags (λ e. absurd (over e))
+        moved hist came p s r 0 new id me.1 gives m' v w at tags (λ e. absurd (over e))
             record { events = hist k; log_is_spelt = tells ∙ all; log_is_lawful = law; closed_has_ended = λ e. cc; home = home; places = places; led = led; doors = doors; turns = turns }
             on
             (λ j u ne f a. (
-              beside_lead n c m m' u st ir.is_held ir.is_holder (λ e. apart_from hist beg p s r j id u v f at ne live a (sym e)) refl (cur u.station)
-                  (stations_handed m l u.station (λ e. apart_from hist beg p s r j id u v f at ne live a (e ∙ sym ir.is_holder))) u.role (r.each_seat j u f).in_role,
-              versions_handed m l u.version (λ e. apart_version hist beg p s r j id u v f at ne live a (sym e ∙ mine)),
-              (λ z. last_other r.seating u.version v.version u.station (λ e. apart_version hist beg p s r j id u v f at ne live a (sym e)) z),
+              beside_lead n c m m' u st ir.is_held ir.is_holder (λ e. apart_from hist came p s r j id u v f at ne live a (sym e)) refl (cur u.station)
+                  (stations_handed m l u.station (λ e. apart_from hist came p s r j id u v f at ne live a (e ∙ sym ir.is_holder))) u.role (r.each_seat j u f).in_role,
+              versions_handed m l u.version (λ e. apart_version hist came p s r j id u v f at ne live a (sym e ∙ mine)),
+              (λ z. last_other r.seating u.version v.version u.station (λ e. apart_version hist came p s r j id u v f at ne live a (sym e)) z),
               λ t _. cur t,
             ))
             record {
@@ -297,7 +310,7 @@ module _ {K B : Type 0} (hist : K → List Entry) (beg : K → B) (p : Layout K)
               head_seen_at_most_head = kn.head_seen_at_most_head;
               owner_seen_at_most_head =
                   let a = given st (v.opened + 1) (length v.seen) new (let h = ir.is_holder in let b = pl.few_stations in omega arith)
-                  (let b = pl.few_stations in let y = d.planned in let z = d.all in let x = below_most (planned hist beg p) (len + 1) in omega arith) is in
+                  (let b = pl.few_stations in let y = d.planned in let z = d.all in let x = below_most (planned hist came p) (len + 1) in omega arith) is in
                   omega arith;
               opened_at_most_open = omega arith;
               in_role = record {
@@ -325,32 +338,35 @@ module _ {K B : Type 0} (hist : K → List Entry) (beg : K → B) (p : Layout K)
               };
               ended_is_past = λ i x e. past_on n m m' x on (kn.ended_is_past i x e);
             }
-            (merge_turned n c s.views id v w at s.words ws' r.log free (merge_phase n c s.words r.log r.phase free s.views r.merge quiet) (second_kept n c 0 new s.words (omega arith)) (λ e. absurd e)
-            (λ (e : Moving ≡ Reader). cc) (λ _. r.merge.floors_wide id v at live)),
+            (merge_asked n c ws' r.log free (set s.views id w) (merge_turned n c s.views id v w at s.words ws' r.log free (merge_phase n c s.words r.log r.phase free s.views r.merge quiet) (second_kept n c 0 new s.words (omega arith)) (λ e. absurd e)
+            (λ (e : Moving ≡ Reader). cc) (λ _. r.merge.floors_wide id v at live))
+            (λ j u f lead. ⊎_elim (λ (y : (j ≡ id) × (w ≡ u)). subst (λ (z : View K). Leads z.role) (sym y.1) lead)
+            (λ (y : (j ≢ id) × (get_elem? s.views j ≡ some u)). alone hist came p s r id v at live ir.is_holder j u y.0 y.1 lead)
+            (at_set s.views id j w u f))),
         (refl, unread, ir.wrote_nothing),
       )
 
   -- the former station leaves
   pub moves_on : (slots id new : ℕ) (me : M) → me.0.role ≡ Moving → new ≡ GONE → Allows RuleOf slots id me (cursor_index me.0.former) (λ _. new) (λ _. moved_on (step slots (cursor_index me.0.former) new 0 none) me new)
   moves_on slots id new me role is s r wide at _ = let v = me.0 in let n : ℕ = p.stations in let c : ℕ = p.places in let kn = r.each_seat id v at in let pl = r.common.places in
-      let m : Moment = now hist beg p s r in let live : Live v.role = subst Live (sym role) tt in let se = kn.seated live in let ir = in_role hist beg p s r id v at Moving role in let fit = open_near hist beg p s r in
+      let m : Moment = now hist came p s r in let live : Live v.role = subst Live (sym role) tt in let se = kn.seated live in let ir = in_role hist came p s r id v at Moving role in let fit = open_near hist came p s r in
       let i : ℕ = v.former in let top = pl.holder_is_open in let inner : i < length r.seating = (let h = ir.is_holder in omega arith) in let near : i < n = omega arith in let few = pl.log_is_short in
       let count = ir.former_is_count in let up : cursor s.words i ≤ new = omega arith in let other : v.station ≢ i = (let h = ir.is_lower in λ e. omega arith) in
       let unread : v.read ≡ [] = no_words v.read (λ x e. let q = kn.read_begins_next 0 x e in let b = at_below r.log (length v.seen) q.0 q.1 in let full = ir.seen_is_log in omega arith) in
       let gone : cursor (set s.words (cursor_index i) new) i ≡ GONE = cursor_there n c m i new pl near up ∙ is in
       let m' : Moment = risen n c m i new pl near up in let w : View K = as_reader v in let on = on_risen n c m i new pl near up fit in
-      let tags : NoClash (map tag (set s.views id w)) = subst NoClash (sym (map-set tag s.views id w)) (apart_role hist beg p s r id v Reader at live) in (
+      let tags : NoClash (map tag (set s.views id w)) = subst NoClash (sym (map-set tag s.views id w)) (apart_role hist came p s r id v Reader at live) in (
         w,
         keeps,
         tt,
-        moved hist beg p s r (cursor_index i) new id me.1 keeps m' v w at tags (λ e. absurd (ir.not_held e))
-            (common_risen hist beg p s.homes m r.common i new near up (inr is) (λ e. absurd (ir.not_held e)) inner) on
+        moved hist came p s r (cursor_index i) new id me.1 keeps m' v w at tags (λ e. absurd (ir.not_held e))
+            (common_risen hist came p s.homes m r.common i new near up (inr is) (λ e. absurd (ir.not_held e)) inner) on
             (λ j u ne f l. (
-              own_risen n c m i new pl near up u (apart_at hist beg p s r j id u v f at ne live l i ir.version_is) u.role
-                  (former_apart hist beg p s r j id u v f at ne live l i ir.version_is),
+              own_risen n c m i new pl near up u (apart_at hist came p s r j id u v f at ne live l i ir.version_is) u.role
+                  (former_apart hist came p s r j id u v f at ne live l i ir.version_is),
               refl,
               (λ z. z),
-              λ t q. cursor_else n c m i new pl near up t (apart_unmade hist beg p s r j id u v f at ne live l t q i ir.version_is),
+              λ t q. cursor_else n c m i new pl near up t (apart_unmade hist came p s r j id u v f at ne live l t q i ir.version_is),
             ))
             record {
               seen_is_prefix = kn.seen_is_prefix;
@@ -369,7 +385,7 @@ module _ {K B : Type 0} (hist : K → List Entry) (beg : K → B) (p : Layout K)
                 opened_least = se.opened_least;
                 last = se.last;
                 spans_are = se.spans_are;
-                unmade_is_new = λ t q. cursor_else n c m i new pl near up t (unmade_apart n p.versions (planned hist beg p) m v.version i v.made t r.common.doors ir.version_is q) ∙ se.unmade_is_new t q;
+                unmade_is_new = λ t q. cursor_else n c m i new pl near up t (unmade_apart n p.versions (planned hist came p) m v.version i v.made t r.common.doors ir.version_is q) ∙ se.unmade_is_new t q;
                 others_are_gone = λ t has ne out. dite (ℕ_discrete t i) (λ e. subst (λ (z : ℕ). GONE ≤ cursor (set s.words (cursor_index i) new) z) (sym e) (omega arith))
                     (λ other'. le_trans (se.others_are_gone t has ne (λ _. other')) (cursor_up n c m i new pl near up t));
               };
@@ -381,7 +397,7 @@ module _ {K B : Type 0} (hist : K → List Entry) (beg : K → B) (p : Layout K)
       )
 
   -- the same at the words that the code computes
-  pub opens_at : (slots id k new : ℕ) (me : M) → me.0.role ≡ Lead → me.0.wrote ≡ [] → MayHand p.stations (planned hist beg p) me.0.opened (length me.0.seen) → LastHasEvent me.0.spans → k ≡ cursor_index me.0.opened → new ≡ length me.0.seen
+  pub opens_at : (slots id k new : ℕ) (me : M) → me.0.role ≡ Lead → me.0.wrote ≡ [] → MayHand p.stations (planned hist came p) me.0.opened (length me.0.seen) → LastHasEvent me.0.spans → k ≡ cursor_index me.0.opened → new ≡ length me.0.seen
       → Allows RuleOf slots id me k (λ _. new) (λ _. opens (step slots k new 0 none) me new)
   opens_at slots id k new me role quiet plan led at is = subst (λ (z : ℕ). Allows RuleOf slots id me z (λ _. new) (λ _. opens (step slots z new 0 none) me new)) (sym at) (opens_next slots id new me role quiet plan led is)
 

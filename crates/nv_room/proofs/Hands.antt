@@ -25,7 +25,7 @@ use Rattle.nv_room.specs.declared.view.Role.TheVariants.{Reader, Lead, Opening, 
 use Rattle.nv_room.specs.Placement.{Log, word_place}
 use Rattle.nv_room.specs.Owner.{GONE, Phase, held, free, closed, owner_word, owner_at}
 use Rattle.nv_room.specs.Spans.{span, Tiles, of_station, IsLastStation}
-use Rattle.nv_room.specs.Room.{cursor, Moment, as_of, Places, Doors, Turns, Led, Freed, InRole, Live, Leads, tag, NoClash, IsKernel, AtHome, Rule}
+use Rattle.nv_room.specs.Room.{cursor, Moment, as_of, Places, Doors, Turns, Led, Freed, InRole, Live, Leads, tag, NoClash, IsKernel, AtHome, Rule, Merge}
 use Rattle.nv_room.specs.Steps.{as_leaving, gave_up, span_begun, as_lead, took}
 use Rattle.nv_room.proofs.Lists.{at_below, at_end}
 use Rattle.nv_room.proofs.Placement.{place_after, header_inside}
@@ -34,6 +34,8 @@ use Rattle.nv_room.specs.Header.{head_index, cursor_index}
 use Rattle.nv_room.proofs.Merges.{merge_turned, merge_phase, merged_quiet, second_kept}
 use Rattle.nv_room.proofs.Stays.{Onward, Own, last_near, planned, past_on, now, moved}
 use Rattle.nv_room.proofs.Seats.{holder_led, none_above, beside_lead, one_last, apart_role, apart_version, apart_from, former_apart, in_role, seated, open_near, none_ready}
+use Rattle.nv_room.specs.Planned.{asked_in}
+use Rattle.nv_room.proofs.Askings.{asked_unhanded}
 
 -- A write of the owner word moves no cursor and no place.
 
@@ -82,20 +84,20 @@ module _ (n c : ℕ) (m : Moment) (new : ℕ) (pl : Places n c m) where
     planned = d.planned;
   }
 
-module _ {K B : Type 0} (hist : K → List Entry) (beg : K → B) (p : Layout K) where
+module _ {K : Type 0} (hist : K → List Entry) (came : K → K → List ℕ → Type 0) (p : Layout K) where
   abbrev St : Type 0
   St = State (Option K) (View K)
 
   abbrev RuleOf : St → Type 0
-  RuleOf = Rule hist beg p
+  RuleOf = Rule hist came p
 
   abbrev M : Type 0
   M = Me (Option K) (View K)
 
-  at_home : (t : K) (events : List Entry) (homes : List (maybe.Option (Option K))) (ph : Phase) → ph ≢ held → IsKernel hist beg t events homes → AtHome hist beg t events homes ph
-  at_home t events homes held ne k = absurd (ne refl)
-  at_home t events homes free ne k = k
-  at_home t events homes closed ne k = k
+  at_home : (t : K) (events : List Entry) (asked : List ℕ) (homes : List (maybe.Option (Option K))) (ph : Phase) → ph ≢ held → IsKernel hist came t events asked homes → AtHome hist came t events asked homes ph
+  at_home t events asked homes held ne k = absurd (ne refl)
+  at_home t events asked homes free ne k = k
+  at_home t events asked homes closed ne k = k
 
   given_at : (ph : Phase) (st o n new : ℕ) → ph ≢ held → st < 16 → o ≤ 16 → new ≡ owner_word ph st o n → owner_at new ≡ n
   given_at held st o n new ne l b is = absurd (ne refl)
@@ -103,20 +105,21 @@ module _ {K B : Type 0} (hist : K → List Entry) (beg : K → B) (p : Layout K)
   given_at closed st o n new ne l b is = let q : new / 2048 ≡ n = omega arith in q
 
   -- the lead gives the kernel up: the word is then free or closed
-  pub gives_up : (slots id new : ℕ) (k : K) (ph : Phase) (me : M) → me.0.role ≡ Lead → me.1 ≡ (0, Some k) ∷ [] → me.0.wrote ≡ [] → map spell (hist k) ≡ me.0.seen → IsLawful (hist k) → ForSome me.0.start (λ s. beg k ≡ beg s.value)
+  pub gives_up : (slots id new : ℕ) (k : K) (ph : Phase) (me : M) → me.0.role ≡ Lead → me.1 ≡ (0, Some k) ∷ [] → me.0.wrote ≡ [] → map spell (hist k) ≡ me.0.seen → IsLawful (hist k) → ForSome me.0.start (λ s. came s.value k me.0.asked)
       → ph ≢ held → (ph ≡ closed → live_after (hist k) ≡ []) → new ≡ owner_word ph me.0.station me.0.opened (length me.0.seen) → Allows RuleOf slots id me 0 (λ _. new) (λ _. gave_up (step slots 0 new 0 none) me new)
   gives_up slots id new k ph me role carries quiet tells law began over ended is s r wide at _ = let v = me.0 in let n : ℕ = p.stations in let c : ℕ = p.places in let kn = r.each_seat id v at in let pl = r.common.places in
-      let m : Moment = now hist beg p s r in let ir = in_role hist beg p s r id v at Lead role in let se = seated hist beg p s r id v at Lead role tt in let st : ℕ = v.station in let ws' : List ℕ = set s.words 0 new in
+      let m : Moment = now hist came p s r in let ir = in_role hist came p s r id v at Lead role in let se = seated hist came p s r id v at Lead role tt in let st : ℕ = v.station in let ws' : List ℕ = set s.words 0 new in
       let m' : Moment = as_of ws' r.log ph r.holder r.spans r.seating r.ready in
-      let fit = open_near hist beg p s r in
+      let fit = open_near hist came p s r in
       let few = pl.few_stations in
       let top = pl.holder_is_open in
       let all : v.seen ≡ r.log = prefix_same v.seen r.log ir.seen_is_log kn.seen_is_prefix in
       let cur : (z : ℕ) → cursor ws' z ≡ cursor s.words z = same_cursor n c m new pl in
       let stays : v.role ≢ Moving = λ e. (let q : Lead ≡ Moving = sym role ∙ e in (let z : ⊥ = cc in z)) in
-      let out : get_elem? s.homes 0 ≡ some none = subst (AtHome hist beg p.start.value r.common.events s.homes) ir.is_held r.common.home in
-      let home : IsKernel hist beg p.start.value (hist k) (homes_after s.homes me.1 gives) =
-      (k, ap (λ (cs : List (ℕ × Option K)). get_elem? (put_back s.homes cs) 0) carries ∙ set_here s.homes 0 (some (Some k)) (at_below s.homes 0 none out), refl, began p.start se.start_is) in
+      let out : get_elem? s.homes 0 ≡ some none = subst (AtHome hist came p.start.value r.common.events (asked_in (planned hist came p) r.spans) s.homes) ir.is_held r.common.home in
+      let asks : v.asked ≡ asked_in (planned hist came p) r.spans = (r.merge.lead_tells id v at (subst Leads (sym role) tt)).1 in
+      let home : IsKernel hist came p.start.value (hist k) (asked_in (planned hist came p) r.spans) (homes_after s.homes me.1 gives) =
+      (k, ap (λ (cs : List (ℕ × Option K)). get_elem? (put_back s.homes cs) 0) carries ∙ set_here s.homes 0 (some (Some k)) (at_below s.homes 0 none out), refl, subst (came p.start.value k) asks (began p.start se.start_is)) in
       let places : Places n c m' =
       places_owned n c m new pl ph r.holder r.spans r.seating r.ready (is ∙ (λ i. owner_word ph (ir.is_holder i) (ir.opened_is i) (ir.seen_is_log i))) pl.holder_is_open pl.lower_are_gone (λ e. absurd (over e)) (λ z ne l. inl (ne, l)) in
       let led : Led m' = record {
@@ -136,20 +139,20 @@ module _ {K B : Type 0} (hist : K → List Entry) (beg : K → B) (p : Layout K)
         gone_spans = λ v z l g. refl;
         gone_last = λ v z l g. l;
       } in
-      let doors : Doors n p.versions (planned hist beg p) m' = doors_owned n c m new pl ph r.holder r.spans p.versions (planned hist beg p) (inl ir.none_ready) r.common.doors in
-      let turns : Turns p.stations p.versions (planned hist beg p) ph (length r.log) r.spans r.seating = record { who_is = r.common.turns.who_is; opened = r.common.turns.opened; unhanded = λ e. absurd (over e); left_over = λ e. absurd (over e) } in
+      let doors : Doors n p.versions (planned hist came p) m' = doors_owned n c m new pl ph r.holder r.spans p.versions (planned hist came p) (inl ir.none_ready) r.common.doors in
+      let turns : Turns p.stations p.versions (planned hist came p) ph (length r.log) r.spans r.seating = record { who_is = r.common.turns.who_is; opened = r.common.turns.opened; unhanded = λ e. absurd (over e); left_over = λ e. absurd (over e) } in
       let w : View K = as_leaving v new in
-      let tags : NoClash (map tag (set s.views id w)) = subst NoClash (sym (map-set tag s.views id w)) (apart_role hist beg p s r id v Leaving at (subst Live (sym role) tt)) in (
+      let tags : NoClash (map tag (set s.views id w)) = subst NoClash (sym (map-set tag s.views id w)) (apart_role hist came p s r id v Leaving at (subst Live (sym role) tt)) in (
         w,
         gives,
         tt,
-        moved hist beg p s r 0 new id me.1 gives m' v w at tags (λ e. absurd (over e))
+        moved hist came p s r 0 new id me.1 gives m' v w at tags (λ e. absurd (over e))
             record {
               events = hist k;
               log_is_spelt = tells ∙ all;
               log_is_lawful = law;
               closed_has_ended = ended;
-              home = at_home p.start.value (hist k) (homes_after s.homes me.1 gives) ph over home;
+              home = at_home p.start.value (hist k) (asked_in (planned hist came p) r.spans) (homes_after s.homes me.1 gives) ph over home;
               places = places;
               led = led;
               doors = doors;
@@ -157,7 +160,7 @@ module _ {K B : Type 0} (hist : K → List Entry) (beg : K → B) (p : Layout K)
             }
             on
             (λ j u ne f l. (
-              beside_lead n c m m' u st ir.is_held ir.is_holder (λ e. apart_from hist beg p s r j id u v f at ne (subst Live (sym role) tt) l (sym e)) refl (cur u.station) refl u.role
+              beside_lead n c m m' u st ir.is_held ir.is_holder (λ e. apart_from hist came p s r j id u v f at ne (subst Live (sym role) tt) l (sym e)) refl (cur u.station) refl u.role
                   (r.each_seat j u f).in_role,
               refl,
               (λ z. z),
@@ -187,7 +190,7 @@ module _ {K B : Type 0} (hist : K → List Entry) (beg : K → B) (p : Layout K)
               };
               ended_is_past = λ i x e. past_on n m m' x on (kn.ended_is_past i x e);
             }
-            (merge_turned n c s.views id v w at s.words ws' r.log ph (merge_phase n c s.words r.log r.phase ph s.views r.merge (sym (r.merge.lead_writes id v at (subst Leads (sym role) tt)) ∙ quiet))
+            (merge_turned n c s.views id v w at s.words ws' r.log ph (merge_phase n c s.words r.log r.phase ph s.views r.merge (sym ((r.merge.lead_tells id v at (subst Leads (sym role) tt)).0) ∙ quiet))
             (second_kept n c 0 new s.words (omega arith)) (λ e. absurd e) (λ (e : Leaving ≡ Reader). cc) (λ _. r.merge.floors_wide id v at (subst Live (sym role) tt))),
         refl,
       )
@@ -221,8 +224,8 @@ module _ {K B : Type 0} (hist : K → List Entry) (beg : K → B) (p : Layout K)
   own_at_take m m' pl st mine is cur short low u ne near other same spans Gone e k = tt
   own_at_take m m' pl st mine is cur short low u ne near other same spans Spent e k = tt
 
-  home_free : (t : K) (events : List Entry) (homes : List (maybe.Option (Option K))) (ph : Phase) → ph ≡ free → AtHome hist beg t events homes ph → IsKernel hist beg t events homes
-  home_free t events homes ph is k = subst (AtHome hist beg t events homes) is k
+  home_free : (t : K) (events : List Entry) (asked : List ℕ) (homes : List (maybe.Option (Option K))) (ph : Phase) → ph ≡ free → AtHome hist came t events asked homes ph → IsKernel hist came t events asked homes
+  home_free t events asked homes ph is k = subst (AtHome hist came t events asked homes) is k
 
   -- the spans after a station takes the lead at head
   led_more : (m : Moment) (ws : List ℕ) (st v n : ℕ) → Led m → n ≡ length m.log → of_station st m.spans ≡ [] → m.holder ≤ st → Led (as_of ws m.log held st (m.spans ++ span st v n n ∷ []) m.seating m.ready)
@@ -236,8 +239,8 @@ module _ {K B : Type 0} (hist : K → List Entry) (beg : K → B) (p : Layout K)
         unled_is_free = λ e. let q = length-append m.spans (span st v n n ∷ []) in let z = ap (λ (z : List Span). length z) e in absurd (omega arith);
       }
 
-  turns_more : (m : Moment) (st v n : ℕ) → Turns p.stations p.versions (planned hist beg p) m.phase (length m.log) m.spans m.seating → get_elem? m.seating st ≡ some v
-      → Turns p.stations p.versions (planned hist beg p) held (length m.log) (m.spans ++ span st v n n ∷ []) m.seating
+  turns_more : (m : Moment) (st v n : ℕ) → Turns p.stations p.versions (planned hist came p) m.phase (length m.log) m.spans m.seating → get_elem? m.seating st ≡ some v
+      → Turns p.stations p.versions (planned hist came p) held (length m.log) (m.spans ++ span st v n n ∷ []) m.seating
   turns_more m st v n t has = record {
     who_is = λ i x e. ⊎_elim (λ (q : get_elem? m.spans i ≡ some x). t.who_is i x q)
         (λ (q : (i ≡ length m.spans) × (span st v n n ≡ x)). subst (λ (z : Span). get_elem? m.seating z.station ≡ some z.version) q.1 has) (at_end m.spans (span st v n n) x i e);
@@ -248,9 +251,9 @@ module _ {K B : Type 0} (hist : K → List Entry) (beg : K → B) (p : Layout K)
   }
 
   pub takes_lead : (slots id new : ℕ) (me : M) → me.0.role ≡ Reader → me.0.freed ≡ Some (length me.0.seen) → new ≡ owner_word held me.0.station me.0.opened (length me.0.seen)
-      → Allows RuleOf slots id me 0 (λ _. new) (λ _. took hist beg (step slots 0 new 0 none) me new)
+      → Allows RuleOf slots id me 0 (λ _. new) (λ _. took hist came (step slots 0 new 0 none) me new)
   takes_lead slots id new me role noted is s r wide at _ = let v = me.0 in let n : ℕ = p.stations in let c : ℕ = p.places in let kn = r.each_seat id v at in let pl = r.common.places in
-      let m : Moment = now hist beg p s r in let ir = in_role hist beg p s r id v at Reader role in let se = seated hist beg p s r id v at Reader role tt in let st : ℕ = v.station in let ws' : List ℕ = set s.words 0 new in
+      let m : Moment = now hist came p s r in let ir = in_role hist came p s r id v at Reader role in let se = seated hist came p s r id v at Reader role tt in let st : ℕ = v.station in let ws' : List ℕ = set s.words 0 new in
       let note : Freed m st v.opened (length v.seen) = ir.freed_stays (length v.seen) noted in
       let len : ℕ = length r.log in
       let size : ℕ = length v.seen in
@@ -258,19 +261,20 @@ module _ {K B : Type 0} (hist : K → List Entry) (beg : K → B) (p : Layout K)
       let all : v.seen ≡ r.log = prefix_same v.seen r.log full kn.seen_is_prefix in
       let few : len ≤ 500000000 = pl.log_is_short in let mine : cursor s.words st ≡ size = ir.cursor_is_length in
       let low : r.holder ≤ st = dite (dec_le r.holder st) (λ le. le) (λ gt. let lt : st < r.holder = lt_of_not-le gt in let g = pl.lower_are_gone st lt in absurd (omega arith)) in
-      let home = home_free p.start.value r.common.events s.homes r.phase note.is_free r.common.home in let k : K = home.0 in
+      let asked : List ℕ = asked_in (planned hist came p) r.spans in
+      let home = home_free p.start.value r.common.events asked s.homes r.phase note.is_free r.common.home in let k : K = home.0 in
       let new_span : Span = span_begun v in
       let spans' : List Span = r.spans ++ new_span ∷ [] in
       let m' : Moment = as_of ws' r.log held st spans' r.seating r.ready in
-      let fit = open_near hist beg p s r in
+      let fit = open_near hist came p s r in
       let live : Live v.role = subst Live (sym role) tt in
-      let ready : r.ready ≡ length r.seating = none_ready hist beg p s r (λ e. let q : held ≡ free = sym e ∙ note.is_free in cc) in
+      let ready : r.ready ≡ length r.seating = none_ready hist came p s r (λ e. let q : held ≡ free = sym e ∙ note.is_free in cc) in
       let cur : (z : ℕ) → cursor ws' z ≡ cursor s.words z = same_cursor n c m new pl in
       let stays : v.role ≢ Moving = λ e. (let q : Reader ≡ Moving = sym role ∙ e in (let z : ⊥ = cc in z)) in
       let places : Places n c m' = places_owned n c m new pl held st spans' r.seating r.ready (is ∙ (λ i. owner_word held st (note.opened_is i) len)) (last_near r.seating v.version st se.last) note.lower_gone (λ e. omega arith)
       (λ z ne l. dite (ℕ_discrete z r.holder) (λ e. let lt : z < st = omega arith in inr (let g = note.lower_gone z lt in omega arith)) (λ ne'. inl (ne', l))) in
       let led : Led m' = led_more m ws' st v.version new_span.from r.common.led full ir.led_nothing low in
-      let doors : Doors n p.versions (planned hist beg p) m' = doors_owned n c m new pl held st spans' p.versions (planned hist beg p) (inl ready) r.common.doors in
+      let doors : Doors n p.versions (planned hist came p) m' = doors_owned n c m new pl held st spans' p.versions (planned hist came p) (inl ready) r.common.doors in
       let on : Onward n m m' = record {
         near = fit;
         wider = le_refl (length r.seating);
@@ -283,13 +287,14 @@ module _ {K B : Type 0} (hist : K → List Entry) (beg : K → B) (p : Layout K)
         gone_spans = λ x z l g. version_more_other x r.spans new_span
             (λ e. let at_mine : z ≡ st = one_last r.seating v.version z st (subst (λ (y : ℕ). IsLastStation r.seating y z) (sym e) l) se.last in let same : cursor s.words z ≡ cursor s.words st = ap (cursor s.words) at_mine in omega arith);
       } in
-      let w : View K = as_lead v in
-      let tags : NoClash (map tag (set s.views id w)) = subst NoClash (sym (map-set tag s.views id w)) (apart_role hist beg p s r id v Lead at (subst Live (sym role) tt)) in
+      let w : View K = as_lead asked v in
+      let same_asked : asked_in (planned hist came p) spans' ≡ asked = asked_unhanded (planned hist came p) r.spans new_span refl in
+      let tags : NoClash (map tag (set s.views id w)) = subst NoClash (sym (map-set tag s.views id w)) (apart_role hist came p s r id v Lead at (subst Live (sym role) tt)) in
       let spelt : map spell (hist k) ≡ r.log = ap (map spell) home.2 ∙ r.common.log_is_spelt in (
         w,
         takes 0 (Some k),
         home.1,
-        moved hist beg p s r 0 new id me.1 (takes 0 (Some k)) m' v w at tags (λ _. (id, w, set_here s.views id w (at_below s.views id v at), tt, refl))
+        moved hist came p s r 0 new id me.1 (takes 0 (Some k)) m' v w at tags (λ _. (id, w, set_here s.views id w (at_below s.views id v at), tt, refl))
             record {
               events = r.common.events;
               log_is_spelt = r.common.log_is_spelt;
@@ -302,10 +307,10 @@ module _ {K B : Type 0} (hist : K → List Entry) (beg : K → B) (p : Layout K)
               turns = turns_more m st v.version new_span.from r.common.turns se.last.has;
             }
             on
-            (λ j u ne f l. let other : u.station ≢ st = apart_from hist beg p s r j id u v f at ne live l in let ku = r.each_seat j u f in (
+            (λ j u ne f l. let other : u.station ≢ st = apart_from hist came p s r j id u v f at ne live l in let ku = r.each_seat j u f in (
               own_at_take m m' pl st v.seen note.is_free mine (omega arith) note.lower_gone u other (prefix_length u.seen r.log ku.seen_is_prefix)
-                  (former_apart hist beg p s r j id u v f at ne live l st se.last.has) (cur u.station) (of_more_other u.station r.spans new_span (λ e. other (sym e))) u.role refl ku.in_role,
-              version_more_other u.version r.spans new_span (λ e. apart_version hist beg p s r j id u v f at ne live l (sym e)),
+                  (former_apart hist came p s r j id u v f at ne live l st se.last.has) (cur u.station) (of_more_other u.station r.spans new_span (λ e. other (sym e))) u.role refl ku.in_role,
+              version_more_other u.version r.spans new_span (λ e. apart_version hist came p s r j id u v f at ne live l (sym e)),
               (λ z. z),
               λ t _. cur t,
             ))
@@ -337,8 +342,9 @@ module _ {K B : Type 0} (hist : K → List Entry) (beg : K → B) (p : Layout K)
               };
               ended_is_past = λ i x e. past_on n m m' x on (kn.ended_is_past i x e);
             }
+            (subst (λ (z : List ℕ). Merge n c ws' r.log held z (set s.views id w)) (sym same_asked)
             (let quiet : r.merge.writing ≡ [] = r.merge.not_held (λ e. let q : held ≡ free = sym e ∙ note.is_free in cc) in merge_turned n c s.views id v w at s.words ws' r.log held
             (merge_phase n c s.words r.log r.phase held s.views r.merge quiet) (second_kept n c 0 new s.words (omega arith))
-            (λ _. ir.wrote_nothing ∙ sym (merged_quiet n c s.words r.log r.phase held s.views r.merge quiet)) (λ (e : Lead ≡ Reader). cc) (λ _. r.merge.floors_wide id v at (subst Live (sym role) tt))),
-        (k, refl, spelt ∙ sym all, λ t e. home.3 ∙ ap (λ (z : Snapshot K). beg z.value) (same_Some p.start t (sym se.start_is ∙ e)), ir.wrote_nothing),
+            (λ _. (ir.wrote_nothing ∙ sym (merged_quiet n c s.words r.log r.phase held s.views r.merge quiet), refl)) (λ (e : Lead ≡ Reader). cc) (λ _. r.merge.floors_wide id v at (subst Live (sym role) tt)))),
+        (k, asked, refl, spelt ∙ sym all, λ t e. subst (λ (z : Snapshot K). came z.value k asked) (same_Some p.start t (sym se.start_is ∙ e)) home.3, ir.wrote_nothing),
       )

@@ -58,8 +58,8 @@ module _ (m : Moment) (l : Last m) where
     pub own_was : number l.last ≡ k → spans_with number k m.spans ≡ spans_with number k l.before ++ l.last ∷ []
     own_was e = ap (spans_with number k) l.is ∙ with_more_own number k l.before l.last e
 
-module _ {K B : Type 0} (hist : K → List Entry) (beg : K → B) (p : Layout K) where
+module _ {K : Type 0} (hist : K → List Entry) (came : K → K → List ℕ → Type 0) (p : Layout K) where
   -- the span that is led is of the lead's version
-  pub lead_last : (s : State (Option K) (View K)) (r : Rule hist beg p s) (id : ℕ) (v : View K) → get_elem? s.views id ≡ some v → Live v.role → v.station ≡ r.holder → (l : Last (now hist beg p s r)) → l.last.version ≡ v.version
-  lead_last s r id v at live is l = one_who r.seating l.last.station v.station l.last.version v.version (r.common.turns.who_is (length l.before) l.last (at_the_last (now hist beg p s r) l))
+  pub lead_last : (s : State (Option K) (View K)) (r : Rule hist came p s) (id : ℕ) (v : View K) → get_elem? s.views id ≡ some v → Live v.role → v.station ≡ r.holder → (l : Last (now hist came p s r)) → l.last.version ≡ v.version
+  lead_last s r id v at live is l = one_who r.seating l.last.station v.station l.last.version v.version (r.common.turns.who_is (length l.before) l.last (at_the_last (now hist came p s r) l))
       ((r.each_seat id v at).seated live).last.has (let h = l.holders in h ∙ sym is)

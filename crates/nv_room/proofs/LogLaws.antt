@@ -1,5 +1,5 @@
 -- The lanes of a log of spelt events that grows.
-use Rattle.std.proofs.Common.{◌≡◌, ℕ, suc, ◌+◌, ◌%◌, ◌<◌, ◌≤◌, ◌≢◌, List, [], ◌∷◌, ◌++◌, map, length, take, get_or, length-append, refl, sym, ap, ◌∙◌, arith}
+use Rattle.std.proofs.Common.{◌≡◌, ℕ, suc, ◌+◌, ◌%◌, ◌<◌, ◌≢◌, List, [], ◌∷◌, ◌++◌, map, length, take, get_or, length-append, refl, sym, ap, ◌∙◌, arith}
 use Rattle.std.proofs.lemmas.List.{map-append, length-map, take-map}
 use Rattle.nv_calls.specs.Calls.{Entry}
 use mathlib.Core.Option.{some}
@@ -8,7 +8,7 @@ use Rattle.nv_calls.specs.Logs.{InRange}
 use Rattle.nv_words.specs.Spelling.{spell}
 use Rattle.nv_words.proofs.SpellLaws.{event_of_spell}
 use Rattle.nv_words.specs.Read.{event_of}
-use Rattle.nv_room.specs.Lanes.{Holders, start, taken_after, lanes_of, lane_at, earlier_at, lane_in, events_in}
+use Rattle.nv_room.specs.Lanes.{Holders, start, lanes_of, lane_at, earlier_at, lane_in, events_in}
 use Rattle.nv_room.proofs.LaneLaws.{holders_after, holders_of_taken, counts_are, lane_after_below, lanes_take, lane_at_below, lane_at_stays, earlier_at_stays, lane_at_last, earlier_at_last, lanes_apart}
 use Rattle.nv_room.specs.Logs.{Log, entries, lanes_after, lane, earlier}
 

@@ -28,23 +28,24 @@ use Rattle.nv_room.proofs.Lists.{at_below, there, at_end, set_or}
 use Rattle.nv_room.proofs.Owners.{Found, found, found_open, as_held, as_free, as_closed, noted_is}
 use Rattle.nv_room.proofs.Tiling.{tiles_none}
 use Rattle.nv_room.proofs.Merges.{merge_turned}
-use Rattle.nv_room.proofs.Stays.{last_near, now, looked}
+use Rattle.nv_room.proofs.Stays.{last_near, now, looked, planned}
 use Rattle.nv_room.proofs.Seats.{prefix_more, holder_led, not_holder, not_held, in_role, seated, open_near, role_near, told}
+use Rattle.nv_room.specs.Planned.{asked_in}
 
-module _ {K B : Type 0} (hist : K → List Entry) (beg : K → B) (p : Layout K) where
+module _ {K : Type 0} (hist : K → List Entry) (came : K → K → List ℕ → Type 0) (p : Layout K) where
   abbrev St : Type 0
   St = State (Option K) (View K)
 
   abbrev RuleOf : St → Type 0
-  RuleOf = Rule hist beg p
+  RuleOf = Rule hist came p
 
   abbrev M : Type 0
   M = Me (Option K) (View K)
 
   -- a look moves no word, so the places tell what they told
-  still : (s : St) (r : RuleOf s) (id : ℕ) (v w : View K) → get_elem? s.views id ≡ some v → (Leads w.role → w.wrote ≡ r.merge.writing) → (w.role ≡ Reader → Notes r.log w.seen w.noted w.missed w.read)
+  still : (s : St) (r : RuleOf s) (id : ℕ) (v w : View K) → get_elem? s.views id ≡ some v → (Leads w.role → (w.wrote ≡ r.merge.writing) × (w.asked ≡ asked_in (planned hist came p) r.spans)) → (w.role ≡ Reader → Notes r.log w.seen w.noted w.missed w.read)
       → (Live w.role → length w.floors ≡ p.stations)
-      → Merge p.stations p.places s.words r.log r.phase (set s.views id w)
+      → Merge p.stations p.places s.words r.log r.phase (asked_in (planned hist came p) r.spans) (set s.views id w)
   still s r id v w at leads reads wide = merge_turned p.stations p.places s.views id v w at s.words s.words r.log r.phase r.merge (λ _ _. refl) leads reads wide
 
   pub looks_head : (slots id : ℕ) (me : M) → Allows RuleOf slots id me head_index (λ x. x) (looked_head (step slots head_index 0 0 none) me)
@@ -53,7 +54,7 @@ module _ {K B : Type 0} (hist : K → List Entry) (beg : K → B) (p : Layout K)
         head_seen v (get_or s.words head_index 0),
         keeps,
         tt,
-        looked hist beg p s r head_index id me.1 v (head_seen v (get_or s.words head_index 0)) at refl (λ q. (q, refl))
+        looked hist came p s r head_index id me.1 v (head_seen v (get_or s.words head_index 0)) at refl (λ q. (q, refl))
             record {
               seen_is_prefix = k.seen_is_prefix;
               read_begins_next = k.read_begins_next;
@@ -73,16 +74,16 @@ module _ {K B : Type 0} (hist : K → List Entry) (beg : K → B) (p : Layout K)
               };
               ended_is_past = k.ended_is_past;
             }
-            (still s r id v (head_seen v (get_or s.words head_index 0)) at (λ e. r.merge.lead_writes id v at e) (λ e. r.merge.notes id v at e) (λ l. r.merge.floors_wide id v at l)),
+            (still s r id v (head_seen v (get_or s.words head_index 0)) at (λ e. r.merge.lead_tells id v at e) (λ e. r.merge.notes id v at e) (λ l. r.merge.floors_wide id v at l)),
         (refl, omega arith, (let q = prefix_length v.seen r.log k.seen_is_prefix in omega arith), (let q = k.owner_seen_at_most_head in omega arith), (let q = k.head_seen_at_most_head in omega arith)),
       )
 
   -- a lead is no further ahead of another station than there are places
   in_window : (s : St) (r : RuleOf s) (id : ℕ) (v : View K) → get_elem? s.views id ≡ some v → v.role ≡ Lead → (st : ℕ) → st < v.opened → st ≢ v.station → length v.seen ≤ cursor s.words st + v.places
   in_window s r id v at role st near other =
-      let ir = in_role hist beg p s r id v at Lead role in
+      let ir = in_role hist came p s r id v at Lead role in
       let seen : length v.seen ≡ length r.log = ir.seen_is_log in
-      let places : v.places ≡ p.places = (seated hist beg p s r id v at Lead role tt).places_are in
+      let places : v.places ≡ p.places = (seated hist came p s r id v at Lead role tt).places_are in
       let within : st < length r.seating = (let e = ir.opened_is in omega arith) in
       let window : length r.log ≤ cursor s.words st + p.places = r.common.places.head_in_window st (λ e. other (e ∙ sym ir.is_holder)) within in
       omega arith
@@ -96,7 +97,7 @@ module _ {K B : Type 0} (hist : K → List Entry) (beg : K → B) (p : Layout K)
         cursor_seen st v x,
         keeps,
         tt,
-        looked hist beg p s r (cursor_index st) id me.1 v (cursor_seen st v x) at refl (λ q. (q, refl)) record {
+        looked hist came p s r (cursor_index st) id me.1 v (cursor_seen st v x) at refl (λ q. (q, refl)) record {
           seen_is_prefix = k.seen_is_prefix;
           read_begins_next = k.read_begins_next;
           floor_at_most_cursor = λ j l. ⊎_elim (λ (e : get_or (set v.floors st x) j 0 ≡ get_or v.floors j 0). subst (λ (z : ℕ). z ≤ cursor s.words j) (sym e) (k.floor_at_most_cursor j l))
@@ -115,7 +116,7 @@ module _ {K B : Type 0} (hist : K → List Entry) (beg : K → B) (p : Layout K)
             others_are_gone = q.others_are_gone;
           };
           ended_is_past = k.ended_is_past;
-        } (still s r id v (cursor_seen st v x) at (λ e. r.merge.lead_writes id v at e) (λ e. r.merge.notes id v at e) (λ l. length-set v.floors st x ∙ r.merge.floors_wide id v at l)),
+        } (still s r id v (cursor_seen st v x) at (λ e. r.merge.lead_tells id v at e) (λ e. r.merge.notes id v at e) (λ l. length-set v.floors st x ∙ r.merge.floors_wide id v at l)),
         (
           count_or_gone (length r.log) x few (r.common.places.cursor_is_count_or_gone st near),
           λ j e. let e' : 8 * (st + 2) ≡ 8 * (j + 2) = e in let q : st ≡ j = omega arith in (
@@ -160,31 +161,31 @@ module _ {K B : Type 0} (hist : K → List Entry) (beg : K → B) (p : Layout K)
 
   pub looks_owner : (slots id : ℕ) (me : M) → me.0.role ≡ Reader → Allows RuleOf slots id me 0 (λ x. x) (looked_owner (step slots 0 0 0 none) me)
   looks_owner slots id me role s r wide at _ = let v = me.0 in let kn = r.each_seat id v at in let x : ℕ = get_or s.words 0 0 in let pl = r.common.places in
-      let ir = in_role hist beg p s r id v at Reader role in let st : ℕ = v.station in let se = seated hist beg p s r id v at Reader role tt in let n : ℕ = p.stations in let len : ℕ = length r.log in
-      let near : st < n = role_near hist beg p s r id v at Reader role tt in
+      let ir = in_role hist came p s r id v at Reader role in let st : ℕ = v.station in let se = seated hist came p s r id v at Reader role tt in let n : ℕ = p.stations in let len : ℕ = length r.log in
+      let near : st < n = role_near hist came p s r id v at Reader role tt in
       let few : len ≤ 500000000 = pl.log_is_short in
-      let all = open_near hist beg p s r in
+      let all = open_near hist came p s r in
       let small : r.holder < 16 = (let a = pl.few_stations in let b = pl.holder_is_open in omega arith) in
       let open_few : length r.seating ≤ 16 = (let a = pl.few_stations in omega arith) in
       let f : Found len x r.phase = found r.phase r.holder (length r.seating) len x small open_few pl.owner_is in
       let opened : opened_at x ≡ length r.seating = found_open r.phase r.holder (length r.seating) len x small open_few pl.owner_is in
       let l = learnt_at s r n x r.phase f in let seen : length v.seen ≤ len = prefix_length v.seen r.log kn.seen_is_prefix in let mine : cursor s.words st ≡ length v.seen = ir.cursor_is_length in
       let low : lower_marked st v.floors ≡ true → (z : ℕ) → z < st → GONE ≤ cursor s.words z = λ e z b. (let a = marked st v.floors e z b in let c = kn.floor_at_most_cursor z (omega arith) in omega arith) in
-      let unheld : lower_marked st v.floors ≡ true → r.phase ≢ held = λ e is. dite (ℕ_discrete st r.holder) (λ same. not_held (now hist beg p s r) st r.common.led ir.led_nothing is same)
+      let unheld : lower_marked st v.floors ≡ true → r.phase ≢ held = λ e is. dite (ℕ_discrete st r.holder) (λ same. not_held (now hist came p s r) st r.common.led ir.led_nothing is same)
       (λ ne. dite (dec_le st r.holder) (λ le. let g = pl.lower_are_gone st (omega arith) in omega arith)
       (λ gt. let lt : r.holder < st = lt_of_not-le gt in let g = low e r.holder lt in let c : cursor s.words r.holder ≤ len = pl.lead_counts is in omega arith)) in
       let v' : View K = owner_seen v x in (
         v',
         keeps,
         tt,
-        looked hist beg p s r 0 id me.1 v v' at refl (λ q. (q, refl)) record {
+        looked hist came p s r 0 id me.1 v v' at refl (λ q. (q, refl)) record {
           seen_is_prefix = kn.seen_is_prefix;
           read_begins_next = kn.read_begins_next;
           floor_at_most_cursor = kn.floor_at_most_cursor;
           head_seen_at_most_head = kn.head_seen_at_most_head;
           owner_seen_at_most_head = l.0;
           opened_at_most_open = let z = opened in omega arith;
-          in_role = subst (InRole n p.places (now hist beg p s r) v') (sym role) record {
+          in_role = subst (InRole n p.places (now hist came p s r) v') (sym role) record {
             cursor_is_length = ir.cursor_is_length;
             led_nothing = ir.led_nothing;
             wrote_nothing = ir.wrote_nothing;
@@ -202,7 +203,7 @@ module _ {K B : Type 0} (hist : K → List Entry) (beg : K → B) (p : Layout K)
             others_are_gone = q.others_are_gone;
           };
           ended_is_past = kn.ended_is_past;
-        } (still s r id v v' at (λ e. r.merge.lead_writes id v at e) (λ e. r.merge.notes id v at e) (λ l. r.merge.floors_wide id v at l)),
+        } (still s r id v v' at (λ e. r.merge.lead_tells id v at e) (λ e. r.merge.notes id v at e) (λ l. r.merge.floors_wide id v at l)),
         (
           refl,
           record {
@@ -214,7 +215,7 @@ module _ {K B : Type 0} (hist : K → List Entry) (beg : K → B) (p : Layout K)
             last_is_free = λ e. found_held len x r.phase f (unheld e);
             first_is_free = λ e. let same : cursor s.words st ≡ cursor s.words 0 = ap (cursor s.words) e in let low : r.holder ≡ 0 = dite (dec_le 1 r.holder)
                 (λ le. let g = pl.lower_are_gone 0 le in absurd (omega arith)) (λ gt. omega arith) in
-                let unled = holder_led (now hist beg p s r) st r.common.led ir.led_nothing (e ∙ sym low) in
+                let unled = holder_led (now hist came p s r) st r.common.led ir.led_nothing (e ∙ sym low) in
                 let b = tiles_none 0 len r.spans r.common.led.tile unled in let g = free_found len x r.phase f (r.common.led.unled_is_free unled) (sym b) in
                 let whole : p.versions ≡ length r.seating = subst (Opened p.versions r.seating) unled r.common.turns.opened in (g.0, g.1, (let a = se.opened_least in let c = kn.opened_at_most_open in omega arith));
             closed_at_end = λ e same. let y = found_closed len x r.phase f e in let all : v.seen ≡ r.log = prefix_same v.seen r.log (sym same ∙ y.1) kn.seen_is_prefix in
@@ -229,11 +230,11 @@ module _ {K B : Type 0} (hist : K → List Entry) (beg : K → B) (p : Layout K)
       → ((log : Log) → Prefix me.0.seen log → l ≡ lane log (length me.0.seen) → k ≡ word_place p.stations p.places log (length me.0.seen) (length me.0.read))
       → Allows RuleOf slots id me k (λ x. x) (read_word (step slots k 0 0 none) me)
   reads_word slots id k l me role part before is s r wide at _ = let v = me.0 in let n : ℕ = p.stations in let c : ℕ = p.places in let kn = r.each_seat id v at in let m : ℕ = length v.seen in
-      let nt = (r.merge.notes id v at role).noted_is_next l before in let got = there r.log m nt.0 in let e : List ℕ = got.0 in let ir = in_role hist beg p s r id v at Reader role in let se = seated hist beg p s r id v at Reader role tt in
+      let nt = (r.merge.notes id v at role).noted_is_next l before in let got = there r.log m nt.0 in let e : List ℕ = got.0 in let ir = in_role hist came p s r id v at Reader role in let se = seated hist came p s r id v at Reader role tt in
       let rd : Prefix v.read e = λ j x f. let y = kn.read_begins_next j x f in subst (λ (z : List ℕ). get_elem? z j ≡ some x) (some-injective y.0 e (sym y.1 ∙ got.1)) y.2 in
       let wh = r.common.places.event_is_whole m e got.1 in let nx = there e (length v.read) (shorter v.read e rd wh.0 part) in let x : ℕ = get_or s.words k 0 in
       let le : cursor s.words v.station ≤ m = subst (λ (z : ℕ). z ≤ m) (sym ir.cursor_is_length) (le_refl m) in
-      let other : v.station ≢ r.holder = not_holder (now hist beg p s r) v.station r.common.led ir.led_nothing (omega arith) in
+      let other : v.station ≢ r.holder = not_holder (now hist came p s r) v.station r.common.led ir.led_nothing (omega arith) in
       let found : x ≡ nx.0 = ap (λ (z : ℕ). get_or s.words z 0) (is r.log kn.seen_is_prefix nt.1) ∙ r.common.places.unread_stands m v.station e other (last_near r.seating v.version v.station se.last) le got.1 (length v.read) nx.0 nx.1 in
       let y = there r.common.events m (let q = ap length r.common.log_is_spelt in let g = at_below r.log m e got.1 in omega (arith, length-map r.common.events spell)) in
       let spells : e ≡ spell y.0 = some-injective e (spell y.0) (sym got.1 ∙ subst (λ (z : Log). get_elem? z m ≡ some (spell y.0)) r.common.log_is_spelt (at_map spell r.common.events m y.0 y.1)) in
@@ -242,7 +243,7 @@ module _ {K B : Type 0} (hist : K → List Entry) (beg : K → B) (p : Layout K)
         word_seen v x,
         keeps,
         tt,
-        looked hist beg p s r k id me.1 v (word_seen v x) at refl (λ q. (q, refl))
+        looked hist came p s r k id me.1 v (word_seen v x) at refl (λ q. (q, refl))
             record {
               seen_is_prefix = kn.seen_is_prefix;
               read_begins_next = λ j y f. (e, got.1, more j y f);
@@ -250,7 +251,7 @@ module _ {K B : Type 0} (hist : K → List Entry) (beg : K → B) (p : Layout K)
               head_seen_at_most_head = kn.head_seen_at_most_head;
               owner_seen_at_most_head = kn.owner_seen_at_most_head;
               opened_at_most_open = kn.opened_at_most_open;
-              in_role = subst (InRole n c (now hist beg p s r) (word_seen v x)) (sym role) ir;
+              in_role = subst (InRole n c (now hist came p s r) (word_seen v x)) (sym role) ir;
               seated = λ l. let q = kn.seated l in record {
                 start_is = q.start_is;
                 places_are = q.places_are;
@@ -262,7 +263,7 @@ module _ {K B : Type 0} (hist : K → List Entry) (beg : K → B) (p : Layout K)
               };
               ended_is_past = kn.ended_is_past;
             }
-            (still s r id v (word_seen v x) at (λ e. r.merge.lead_writes id v at e) (λ e. let k = r.merge.notes id v at e in record {
+            (still s r id v (word_seen v x) at (λ e. r.merge.lead_tells id v at e) (λ e. let k = r.merge.notes id v at e in record {
               noted_is_next = k.noted_is_next;
               missed_is_not = k.missed_is_not;
               unnoted_is_unread = λ q. let none : Some l ≡ None = sym before ∙ q in cc;
@@ -270,7 +271,7 @@ module _ {K B : Type 0} (hist : K → List Entry) (beg : K → B) (p : Layout K)
         (
           refl,
           (y.0, lawful_range r.common.events m y.0 r.common.log_is_lawful y.1, subst (λ (z : List ℕ). Prefix (v.read ++ x ∷ []) z) spells more),
-          λ full. let same : v.read ++ x ∷ [] ≡ e = whole_same (v.read ++ x ∷ []) e more full wh.0 in told hist beg p s r (v.seen ++ (v.read ++ x ∷ []) ∷ [])
+          λ full. let same : v.read ++ x ∷ [] ≡ e = whole_same (v.read ++ x ∷ []) e more full wh.0 in told hist came p s r (v.seen ++ (v.read ++ x ∷ []) ∷ [])
               (prefix_more v.seen (v.read ++ x ∷ []) r.log kn.seen_is_prefix (got.1 ∙ ap some (sym same))),
         ),
       )

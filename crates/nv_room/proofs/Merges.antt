@@ -38,14 +38,14 @@ notes_stay log more seen noted missed read k = let n = length-append log more in
 
 module _ {T : Type 0} (n c : ℕ) (views : List (View T)) (id : ℕ) (v w : View T) (at : get_elem? views id ≡ some v) where
   -- the view of the seat id changes, and no word of a place
-  pub merge_turned : (ws ws' : List ℕ) (log : Log) (phase : Phase) (m : Merge n c ws log phase views) → ((l k : ℕ) → stamp_word n c ws' l k ≡ stamp_word n c ws l k)
-      → (Leads w.role → w.wrote ≡ m.writing) → (w.role ≡ Reader → Notes log w.seen w.noted w.missed w.read) → (Live w.role → length w.floors ≡ n) → Merge n c ws' log phase (set views id w)
+  pub merge_turned : (ws ws' : List ℕ) (log : Log) (phase : Phase) {asked : List ℕ} (m : Merge n c ws log phase asked views) → ((l k : ℕ) → stamp_word n c ws' l k ≡ stamp_word n c ws l k)
+      → (Leads w.role → (w.wrote ≡ m.writing) × (w.asked ≡ asked)) → (w.role ≡ Reader → Notes log w.seen w.noted w.missed w.read) → (Live w.role → length w.floors ≡ n) → Merge n c ws' log phase asked (set views id w)
   merge_turned ws ws' log phase m same leads reads wide = record {
     writing = m.writing;
     stamps = stamps_same c (stamp_word n c ws) (stamp_word n c ws') log m.writing same m.stamps;
-    lead_writes = λ j u e role. ⊎_elim
-        (λ (y : (j ≡ id) × (w ≡ u)). ap (λ (z : View T). z.wrote) (sym y.1) ∙ leads (subst (λ (z : View T). Leads z.role) (sym y.1) role))
-        (λ (y : (j ≢ id) × (get_elem? views j ≡ some u)). m.lead_writes j u y.1 role)
+    lead_tells = λ j u e role. ⊎_elim
+        (λ (y : (j ≡ id) × (w ≡ u)). let own = leads (subst (λ (z : View T). Leads z.role) (sym y.1) role) in (ap (λ (z : View T). z.wrote) (sym y.1) ∙ own.0, ap (λ (z : View T). z.asked) (sym y.1) ∙ own.1))
+        (λ (y : (j ≢ id) × (get_elem? views j ≡ some u)). m.lead_tells j u y.1 role)
         (at_set views id j w u e);
     not_held = m.not_held;
     notes = λ j u e role. ⊎_elim
@@ -59,14 +59,14 @@ module _ {T : Type 0} (n c : ℕ) (views : List (View T)) (id : ℕ) (v w : View
   }
 
   -- the lead writes: `w` is its new view, and no other seat leads
-  pub merge_written : (ws ws' : List ℕ) (log log' : Log) (phase : Phase) (m : Merge n c ws log phase views) (writing : List ℕ) → w.role ≡ Lead → w.wrote ≡ writing → phase ≡ held → length w.floors ≡ n
+  pub merge_written : (ws ws' : List ℕ) (log log' : Log) (phase : Phase) {asked asked' : List ℕ} (m : Merge n c ws log phase asked views) (writing : List ℕ) → w.role ≡ Lead → w.wrote ≡ writing → w.asked ≡ asked' → phase ≡ held → length w.floors ≡ n
       → ((j : ℕ) (u : View T) → j ≢ id → get_elem? views j ≡ some u → ¬ Leads u.role) → Stamps c (stamp_word n c ws') log' writing
-      → ((seen : Log) (noted : Option ℕ) (missed read : List ℕ) → Notes log seen noted missed read → Notes log' seen noted missed read) → Merge n c ws' log' phase (set views id w)
-  merge_written ws ws' log log' phase m writing role is leads wide alone stamps on = record {
+      → ((seen : Log) (noted : Option ℕ) (missed read : List ℕ) → Notes log seen noted missed read → Notes log' seen noted missed read) → Merge n c ws' log' phase asked' (set views id w)
+  merge_written ws ws' log log' phase m writing role is asks leads wide alone stamps on = record {
     writing = writing;
     stamps = stamps;
-    lead_writes = λ j u e lead. ⊎_elim
-        (λ (y : (j ≡ id) × (w ≡ u)). ap (λ (z : View T). z.wrote) (sym y.1) ∙ is)
+    lead_tells = λ j u e lead. ⊎_elim
+        (λ (y : (j ≡ id) × (w ≡ u)). (ap (λ (z : View T). z.wrote) (sym y.1) ∙ is, ap (λ (z : View T). z.asked) (sym y.1) ∙ asks))
         (λ (y : (j ≢ id) × (get_elem? views j ≡ some u)). absurd (alone j u y.0 y.1 lead))
         (at_set views id j w u e);
     not_held = λ ne. absurd (ne leads);
@@ -81,27 +81,39 @@ module _ {T : Type 0} (n c : ℕ) (views : List (View T)) (id : ℕ) (v w : View
   }
 
 -- the lead comes or goes while nothing stands at head
-pub merge_phase : {T : Type 0} (n c : ℕ) (ws : List ℕ) (log : Log) (phase phase' : Phase) (views : List (View T)) (m : Merge n c ws log phase views) → m.writing ≡ [] → Merge n c ws log phase' views
+pub merge_phase : {T : Type 0} (n c : ℕ) (ws : List ℕ) (log : Log) (phase phase' : Phase) {asked : List ℕ} (views : List (View T)) (m : Merge n c ws log phase asked views) → m.writing ≡ [] → Merge n c ws log phase' asked views
 merge_phase n c ws log phase phase' views m e = record {
   writing = [];
   stamps = subst (Stamps c (stamp_word n c ws) log) e m.stamps;
-  lead_writes = λ j v at role. m.lead_writes j v at role ∙ e;
+  lead_tells = λ j v at role. let x = m.lead_tells j v at role in (x.0 ∙ e, x.1);
   not_held = λ _. refl;
   notes = m.notes;
   floors_wide = m.floors_wide;
 }
 
-pub merged_quiet : {T : Type 0} (n c : ℕ) (ws : List ℕ) (log : Log) (phase phase' : Phase) (views : List (View T)) (m : Merge n c ws log phase views) (e : m.writing ≡ []) → (merge_phase n c ws log phase phase' views m e).writing ≡ []
+pub merged_quiet : {T : Type 0} (n c : ℕ) (ws : List ℕ) (log : Log) (phase phase' : Phase) {asked : List ℕ} (views : List (View T)) (m : Merge n c ws log phase asked views) (e : m.writing ≡ []) → (merge_phase n c ws log phase phase' views m e).writing ≡ []
 unfolding merge_phase
 merged_quiet n c ws log phase phase' views m e = refl
 
+-- no seat leads, so that none tells what was asked for
+pub merge_asked : {T : Type 0} (n c : ℕ) (ws : List ℕ) (log : Log) (phase : Phase) {asked asked' : List ℕ} (views : List (View T)) → Merge n c ws log phase asked views
+    → ((j : ℕ) (u : View T) → get_elem? views j ≡ some u → ¬ Leads u.role) → Merge n c ws log phase asked' views
+merge_asked n c ws log phase views m none = record {
+  writing = m.writing;
+  stamps = m.stamps;
+  lead_tells = λ j u at role. absurd (none j u at role);
+  not_held = m.not_held;
+  notes = m.notes;
+  floors_wide = m.floors_wide;
+}
+
 -- one more seat, which reads
-pub merge_cut : {T : Type 0} (n c : ℕ) (ws : List ℕ) (log : Log) (phase : Phase) (views : List (View T)) (w : View T) → Merge n c ws log phase views → w.role ≡ Reader
-    → Notes log w.seen w.noted w.missed w.read → length w.floors ≡ n → Merge n c ws log phase (views ++ w ∷ [])
+pub merge_cut : {T : Type 0} (n c : ℕ) (ws : List ℕ) (log : Log) (phase : Phase) {asked : List ℕ} (views : List (View T)) (w : View T) → Merge n c ws log phase asked views → w.role ≡ Reader
+    → Notes log w.seen w.noted w.missed w.read → length w.floors ≡ n → Merge n c ws log phase asked (views ++ w ∷ [])
 merge_cut {T} n c ws log phase views w m role notes wide = record {
   writing = m.writing;
   stamps = m.stamps;
-  lead_writes = λ j u e lead. ⊎_elim (λ (q : get_elem? views j ≡ some u). m.lead_writes j u q lead) (λ (q : (j ≡ length views) × (w ≡ u)). absurd (subst Leads (ap (λ (z : View T). z.role) (sym q.1) ∙ role) lead)) (at_end views w u j e);
+  lead_tells = λ j u e lead. ⊎_elim (λ (q : get_elem? views j ≡ some u). m.lead_tells j u q lead) (λ (q : (j ≡ length views) × (w ≡ u)). absurd (subst Leads (ap (λ (z : View T). z.role) (sym q.1) ∙ role) lead)) (at_end views w u j e);
   not_held = m.not_held;
   notes = λ j u e reader. ⊎_elim (λ (q : get_elem? views j ≡ some u). m.notes j u q reader) (λ (q : (j ≡ length views) × (w ≡ u)). subst (λ (z : View T). Notes log z.seen z.noted z.missed z.read) q.1 notes) (at_end views w u j e);
   floors_wide = λ j u e l. ⊎_elim (λ (q : get_elem? views j ≡ some u). m.floors_wide j u q l) (λ (q : (j ≡ length views) × (w ≡ u)). ap (λ (z : View T). length z.floors) (sym q.1) ∙ wide) (at_end views w u j e);

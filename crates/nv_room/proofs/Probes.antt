@@ -27,8 +27,9 @@ use Rattle.nv_room.specs.Steps.{probed_at, probed}
 use Rattle.nv_room.proofs.Lists.{at_end, there, prefix_take}
 use Rattle.nv_room.proofs.Placement.{place_early, slots_apart}
 use Rattle.nv_room.proofs.Merges.{merge_turned}
-use Rattle.nv_room.proofs.Stays.{last_near, now, looked}
+use Rattle.nv_room.proofs.Stays.{last_near, now, looked, planned}
 use Rattle.nv_room.proofs.Seats.{not_holder, in_role, seated}
+use Rattle.nv_room.specs.Planned.{asked_in}
 
 by_test : {A : Type 0} (b : Bool) → (b ≡ true → A) → (b ≡ false → A) → A
 by_test true hit miss = hit refl
@@ -100,12 +101,12 @@ noted_miss log seen noted missed read l k more is = record {
   unnoted_is_unread = k.unnoted_is_unread;
 }
 
-module _ {K B : Type 0} (hist : K → List Entry) (beg : K → B) (p : Layout K) where
+module _ {K : Type 0} (hist : K → List Entry) (came : K → K → List ℕ → Type 0) (p : Layout K) where
   abbrev St : Type 0
   St = State (Option K) (View K)
 
   abbrev RuleOf : St → Type 0
-  RuleOf = Rule hist beg p
+  RuleOf = Rule hist came p
 
   abbrev M : Type 0
   M = Me (Option K) (View K)
@@ -115,13 +116,13 @@ module _ {K B : Type 0} (hist : K → List Entry) (beg : K → B) (p : Layout K)
 
   -- the number of an event that a reader has still to see stands in its place
   stamped : (s : St) (r : RuleOf s) (id : ℕ) (v : View K) → get_elem? s.views id ≡ some v → v.role ≡ Reader → length v.seen < length r.log → IsStamped p.places (stamp_word p.stations p.places s.words) r.log (length v.seen)
-  stamped s r id v at role more = let n : ℕ = p.stations in let c : ℕ = p.places in let i : ℕ = length v.seen in let ir = in_role hist beg p s r id v at Reader role in let se = seated hist beg p s r id v at Reader role tt in
+  stamped s r id v at role more = let n : ℕ = p.stations in let c : ℕ = p.places in let i : ℕ = length v.seen in let ir = in_role hist came p s r id v at Reader role in let se = seated hist came p s r id v at Reader role tt in
       let e = there r.log i more in
       let y = there r.common.events i (let q = ap length r.common.log_is_spelt in omega (arith, length-map r.common.events spell)) in
       let spells : e.0 ≡ spell y.0 = some-injective e.0 (spell y.0) (sym e.1 ∙ subst (λ (z : Log). get_elem? z i ≡ some (spell y.0)) r.common.log_is_spelt (at_map spell r.common.events i y.0 y.1)) in
       let word = number_word y.0 (lawful_range r.common.events i y.0 r.common.log_is_lawful y.1) in
       let stamp : y.0.stamp ≡ i = (r.common.log_is_lawful i y.0 (slice_some r.common.events i y.0 y.1)).stamp in
-      let other : v.station ≢ r.holder = not_holder (now hist beg p s r) v.station r.common.led ir.led_nothing (omega arith) in
+      let other : v.station ≢ r.holder = not_holder (now hist came p s r) v.station r.common.led ir.led_nothing (omega arith) in
       let le : cursor s.words v.station ≤ i = subst (λ (z : ℕ). z ≤ i) (sym ir.cursor_is_length) (le_refl i) in
       let stands = r.common.places.unread_stands i v.station e.0 other (last_near r.seating v.version v.station se.last) le e.1 1 _ (ap (λ (z : List ℕ). get_elem? z 1) spells ∙ word.0) in
       ap (λ (z : ℕ). low (get_or s.words z 0)) (sym (place_early n c r.log i 1 (omega arith))) ∙ ap low stands ∙ word.1 ∙ stamp
@@ -136,7 +137,7 @@ module _ {K B : Type 0} (hist : K → List Entry) (beg : K → B) (p : Layout K)
       let mg = r.merge in
       let seen : Log = v.seen in
       let i : ℕ = length v.seen in
-      let se = seated hist beg p s r id v at Reader role tt in let nt = mg.notes id v at role in let x : ℕ = get_or s.words k 0 in let pos : 0 < c = r.common.places.some_place in
+      let se = seated hist came p s r id v at Reader role tt in let nt = mg.notes id v at role in let x : ℕ = get_or s.words k 0 in let pos : 0 < c = r.common.places.some_place in
       let more : i < length r.log = (let q = kn.head_seen_at_most_head in omega arith) in
       let prefix : take i r.log ≡ v.seen = prefix_take v.seen r.log kn.seen_is_prefix in
       let sec : ℕ → ℕ → ℕ = stamp_word n c s.words in
@@ -145,17 +146,17 @@ module _ {K B : Type 0} (hist : K → List Entry) (beg : K → B) (p : Layout K)
       let floors : length v.floors ≡ n = mg.floors_wide id v at (subst Live (sym role) tt) in
       let w : View K = probed_at l v x in
       let turned =
-      λ (u : View K) (same : u.role ≡ v.role) (writes : u.wrote ≡ v.wrote) (notes : Notes r.log u.seen u.noted u.missed u.read)
-      (floored : length u.floors ≡ n). merge_turned n c s.views id v u at s.words s.words r.log r.phase mg (λ _ _. refl) (λ e. writes ∙ mg.lead_writes id v at (subst Leads same e)) (λ _. notes) (λ _. floored) in
-      let merge : Merge n c s.words r.log r.phase (set s.views id w) = by_test (low x == i)
-      (λ t. subst (λ (b : Bool). Merge n c s.words r.log r.phase (set s.views id (cond b (hit l v) (miss l v)))) (sym t)
-      (turned (hit l v) refl refl (noted_hit r.log v.seen v.noted v.missed v.read l nt more (probe_hits c sec r.log mg.writing v.seen l pos mg.stamps more below living (shown ∙ eqb-true (low x) i t))) floors))
-      (λ f. subst (λ (b : Bool). Merge n c s.words r.log r.phase (set s.views id (cond b (hit l v) (miss l v)))) (sym f)
-      (turned (miss l v) refl refl (noted_miss r.log v.seen v.noted v.missed v.read l nt more (probe_misses c sec r.log v.seen l prefix stands (λ e. eqb-false (low x) i f (sym shown ∙ e)))) floors)) in (
+      λ (u : View K) (same : u.role ≡ v.role) (writes : (u.wrote ≡ v.wrote) × (u.asked ≡ v.asked)) (notes : Notes r.log u.seen u.noted u.missed u.read)
+      (floored : length u.floors ≡ n). merge_turned n c s.views id v u at s.words s.words r.log r.phase mg (λ _ _. refl) (λ e. let own = mg.lead_tells id v at (subst Leads same e) in (writes.0 ∙ own.0, writes.1 ∙ own.1)) (λ _. notes) (λ _. floored) in
+      let merge : Merge n c s.words r.log r.phase (asked_in (planned hist came p) r.spans) (set s.views id w) = by_test (low x == i)
+      (λ t. subst (λ (b : Bool). Merge n c s.words r.log r.phase (asked_in (planned hist came p) r.spans) (set s.views id (cond b (hit l v) (miss l v)))) (sym t)
+      (turned (hit l v) refl (refl, refl) (noted_hit r.log v.seen v.noted v.missed v.read l nt more (probe_hits c sec r.log mg.writing v.seen l pos mg.stamps more below living (shown ∙ eqb-true (low x) i t))) floors))
+      (λ f. subst (λ (b : Bool). Merge n c s.words r.log r.phase (asked_in (planned hist came p) r.spans) (set s.views id (cond b (hit l v) (miss l v)))) (sym f)
+      (turned (miss l v) refl (refl, refl) (noted_miss r.log v.seen v.noted v.missed v.read l nt more (probe_misses c sec r.log v.seen l prefix stands (λ e. eqb-false (low x) i f (sym shown ∙ e)))) floors)) in (
         w,
         keeps,
         tt,
-        looked hist beg p s r k id me.1 v w at (tag_probed l v x) (leads_probed l v x) (knows_probed l v p (now hist beg p s r) x kn) merge,
+        looked hist came p s r k id me.1 v w at (tag_probed l v x) (leads_probed l v x) (knows_probed l v p (now hist came p s r) x kn) merge,
         λ j near word.
             let same : l ≡ j = (slots_apart n c l _ 1 j _ 1 (mod-lt _ pos) (mod-lt _ pos) (omega arith) (omega arith) (sym is ∙ word ∙ (λ z. next_slot (floors z) (se.places_are z) (lanes_after v.seen) j 1))).0 in (
               ap (λ (z : ℕ). (probed_at z v x, me.1)) same,

@@ -110,12 +110,12 @@ module _ (ts : List Tag) (id : ℕ) (a b : Tag) (at : get_elem? ts id ≡ some a
       (λ (q : (h ≢ id) × (get_elem? ts h ≡ some y)). old j h x y p.1 q.1 c) (at_set ts id h b y f))
       (at_set ts id j b x e)
 
-module _ {K B : Type 0} (hist : K → List Entry) (beg : K → B) (p : Layout K) where
+module _ {K : Type 0} (hist : K → List Entry) (came : K → K → List ℕ → Type 0) (p : Layout K) where
   abbrev St : Type 0
   St = State (Option K) (View K)
 
   abbrev RuleOf : St → Type 0
-  RuleOf = Rule hist beg p
+  RuleOf = Rule hist came p
 
   -- a live seat whose role alone changes, as far as others see it
   pub apart_role : (s : St) (r : RuleOf s) (id : ℕ) (v : View K) (role : Role) → get_elem? s.views id ≡ some v → Live v.role → NoClash (set (map tag s.views) id (role, (tag v).1, (tag v).2, (tag v).3))
@@ -133,6 +133,10 @@ module _ {K B : Type 0} (hist : K → List Entry) (beg : K → B) (p : Layout K)
   pub apart_from : (s : St) (r : RuleOf s) (j id : ℕ) (u v : View K) → get_elem? s.views j ≡ some u → get_elem? s.views id ≡ some v → j ≢ id → Live v.role → Live u.role → u.station ≢ v.station
   apart_from s r j id u v e at ne lv lu = apart_at s r j id u v e at ne lv lu v.station ((r.each_seat id v at).seated lv).last.has
 
+  -- there is one lead
+  pub alone : (s : St) (r : RuleOf s) (id : ℕ) (v : View K) → get_elem? s.views id ≡ some v → Live v.role → v.station ≡ r.holder → (j : ℕ) (u : View K) → j ≢ id → get_elem? s.views j ≡ some u → ¬ Leads u.role
+  alone s r id v at live holds j u ne f is = apart_from s r j id u v f at ne live (leads_lives u.role is) (leads_at p.stations p.places (now hist came p s r) u u.role is (r.each_seat j u f).in_role ∙ sym holds)
+
   -- no seat is at a station whose seat is still to be made
   pub apart_unmade : (s : St) (r : RuleOf s) (j id : ℕ) (u v : View K) → get_elem? s.views j ≡ some u → get_elem? s.views id ≡ some v → j ≢ id → Live v.role → Live u.role → (t : ℕ)
       → Unmade p.versions u.version u.made t → (z : ℕ) → get_elem? r.seating z ≡ some v.version → t ≢ z
@@ -140,20 +144,20 @@ module _ {K B : Type 0} (hist : K → List Entry) (beg : K → B) (p : Layout K)
       (r.one_seat_a_version j id (tag u) (tag v) (at_map tag s.views j u e) (at_map tag s.views id v at)
       (lu, lv, inr (inl (un.first, inl (let a = un.not_made in let b : t ≡ v.version = one_who r.seating t z t v.version (r.common.doors.first t un.near) has same in omega arith)))))
 
-  pub in_role : (s : St) (r : RuleOf s) (id : ℕ) (v : View K) → get_elem? s.views id ≡ some v → (role : Role) → v.role ≡ role → InRole p.stations p.places (now hist beg p s r) v role
-  in_role s r id v at role is = subst (InRole p.stations p.places (now hist beg p s r) v) is (r.each_seat id v at).in_role
+  pub in_role : (s : St) (r : RuleOf s) (id : ℕ) (v : View K) → get_elem? s.views id ≡ some v → (role : Role) → v.role ≡ role → InRole p.stations p.places (now hist came p s r) v role
+  in_role s r id v at role is = subst (InRole p.stations p.places (now hist came p s r) v) is (r.each_seat id v at).in_role
 
   -- no other seat still has to leave a station of this seat's version
   pub former_apart : (s : St) (r : RuleOf s) (j id : ℕ) (u v : View K) → get_elem? s.views j ≡ some u → get_elem? s.views id ≡ some v → j ≢ id → Live v.role → Live u.role → (z : ℕ)
       → get_elem? r.seating z ≡ some v.version → u.role ≡ Moving → u.former ≢ z
   former_apart s r j id u v e at ne lv lu z has is same = apart_version s r j id u v e at ne lv lu (one_who r.seating u.former z u.version v.version (in_role s r j u e Moving is).version_is has same)
 
-  pub seated : (s : St) (r : RuleOf s) (id : ℕ) (v : View K) → get_elem? s.views id ≡ some v → (role : Role) → v.role ≡ role → Live role → IsSeated p (now hist beg p s r) v
+  pub seated : (s : St) (r : RuleOf s) (id : ℕ) (v : View K) → get_elem? s.views id ≡ some v → (role : Role) → v.role ≡ role → Live role → IsSeated p (now hist came p s r) v
   seated s r id v at role is l = (r.each_seat id v at).seated (subst Live (sym is) l)
 
   -- all open stations are the room's
   pub open_near : (s : St) (r : RuleOf s) → length r.seating ≤ p.stations
-  open_near s r = let d = r.common.doors in let a = d.all in let b = d.planned in let e = below_most (planned hist beg p) (length r.log + 1) in
+  open_near s r = let d = r.common.doors in let a = d.all in let b = d.planned in let e = below_most (planned hist came p) (length r.log + 1) in
       ⊎_elim (λ (q : r.ready ≡ length r.seating). omega arith) (λ (q : (r.ready ≡ length r.seating + 1) × (r.phase ≡ held) × (cursor s.words (length r.seating) ≡ length r.log)). let z = q.0 in omega arith) d.ready_is
 
   -- a seat's station is one of them

@@ -1,9 +1,9 @@
 -- What the places tell stays, whatever the lead writes.
-use Rattle.std.proofs.Common.{◌≡◌, ◌≢◌, ℕ, ◌+◌, ◌*◌, ◌%◌, ◌<◌, ◌≤◌, ◌⊎◌, inl, inr, ⊎_elim, List, [], ◌∷◌, ◌++◌, map, length, length-append, sym, ap, subst, ◌∙◌, refl, arith}
+use Rattle.std.proofs.Common.{◌≡◌, ℕ, ◌<◌, ◌⊎◌, inl, inr, ⊎_elim, List, [], ◌∷◌, ◌++◌, length, length-append, sym, ap, subst, ◌∙◌, refl, arith}
 use mathlib.Core.Option.{some}
 use lib.ListN.{get_elem?}
 use Rattle.nv_calls.specs.Calls.{Entry}
-use Rattle.nv_calls.specs.Logs.{InRange, IsLawful}
+use Rattle.nv_calls.specs.Logs.{InRange}
 use Rattle.nv_words.specs.Spelling.{low, pair, flag_bit, spell}
 use Rattle.nv_room.specs.Logs.{Log, lane}
 use Rattle.nv_room.proofs.LogLaws.{lane_stays, lane_begun}

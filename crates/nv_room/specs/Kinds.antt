@@ -35,7 +35,7 @@ module _ {T : Type 0} (n : ℕ) (v w : View T) where
   StepGives (writes r) = w ≡ word_put v r
   StepGives sees = (length v.seen < MOST_EVENTS) × (w ≡ one_on v)
   StepGives publishes = (length v.seen < MOST_EVENTS) × (w ≡ one_out v)
-  StepGives takes = (v.role ≡ Reader) × (w ≡ as_lead v)
+  StepGives takes = (v.role ≡ Reader) × (w ≡ as_lead w.asked v)
   StepGives (gives_up r) = (v.role ≡ Lead) × (w ≡ as_leaving v r)
   StepGives leaves = ((v.role ≡ Reader) ⊎ (v.role ≡ Leaving)) × (w ≡ as_gone v)
   StepGives opens = (v.role ≡ Lead) × (w ≡ as_opening v)

@@ -9,10 +9,11 @@ use Rattle.nv_room.specs.declared.view.Span.{Span}
 use Rattle.nv_room.specs.declared.room.Room.{Room}
 use Rattle.nv_room.specs.declared.room.Left.{Left}
 use Rattle.nv_room.specs.Placement.{Log}
+use Rattle.nv_room.specs.Planned.{asked_in}
 use Rattle.nv_room.specs.Spans.{Tiles, Rising, of_version, Before, IsLastStation, Opened}
-use Rattle.nv_room.specs.Room.{AreOfNext}
+use Rattle.nv_room.specs.Room.{AreOfNext, Became}
 use Rattle.nv_room.specs.Steps.{past_of}
-use Rattle.nv_room.specs.Seats.{left_view}
+use Rattle.nv_room.specs.Seats.{left_view, hands_of, origin}
 
 module _ {K : Type 0} {G : Ghosts K} where
   -- seats of one table, each of a version of its own
@@ -42,8 +43,8 @@ module _ {K : Type 0} {G : Ghosts K} where
     pub before : Before spans r.station (left_view r).seen (left_view r).read
 
   -- The spans, each of an open station and its version, tile the history in order of station. The first stations are those of the versions;
-  -- the others were opened by the hand-overs.
-  pub record AllTell (history : Log) (counts : List ℕ) (rs : List (Left K G)) : Type 0 where
+  -- the others were opened by the hand-overs. The kernel asked for those that aren't planned, and for no other.
+  pub record AllTell (room : Room K) (kernel : K) (history : Log) (counts : List ℕ) (rs : List (Left K G)) : Type 0 where
     pub spans : List Span
     pub seating : List ℕ
     pub tile : Tiles 0 spans (length history)
@@ -52,4 +53,5 @@ module _ {K : Type 0} {G : Ghosts K} where
     pub first : (s : ℕ) → s < length counts → get_elem? seating s ≡ some s
     pub is_version : (s v : ℕ) → get_elem? seating s ≡ some v → v < length counts
     pub opened : Opened (length counts) seating spans
+    pub asked : Became G.start G.handed (origin room) kernel (asked_in (hands_of room) spans)
     pub each : (i : ℕ) (r : Left K G) → get_elem? rs i ≡ some r → TellsOf history counts spans seating r

@@ -1,5 +1,5 @@
 -- The lanes of a log of spelt events.
-use Rattle.std.specs.Prelude.{◌≡◌, ℕ, List, map, slice_index}
+use Rattle.std.specs.Prelude.{ℕ, List, map}
 use Rattle.nv_calls.specs.Calls.{Entry}
 use Rattle.nv_words.specs.Read.{event_of}
 use Rattle.nv_room.specs.Lanes.{Taken, taken_after, lane_at, earlier_at}

@@ -1,7 +1,7 @@
 -- What the places of the lanes tell of the order of events: word 1 of a place has an event's number in its low half.
-use Rattle.std.specs.Prelude.{◌≡◌, ◌≢◌, ℕ, ◌+◌, ◌%◌, ◌<◌, ◌≤◌, ◌⊎◌, Bool, true, List, [], ◌∷◌, ◌++◌, length, take, slice_index}
+use Rattle.std.specs.Prelude.{◌≡◌, ℕ, ◌%◌, ◌<◌, ◌≤◌, ◌⊎◌, true, List, [], ◌∷◌, ◌++◌, length, slice_index}
 use Rattle.nv_words.specs.Spelling.{low}
-use Rattle.nv_room.specs.Lanes.{Taken, lives}
+use Rattle.nv_room.specs.Lanes.{lives}
 use Rattle.nv_room.specs.Logs.{Log, lanes_after, lane, earlier}
 
 -- the event of this number stands in the lane

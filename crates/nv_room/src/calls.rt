@@ -1,7 +1,8 @@
 //! What the seats and the room tell, and the kernel's calls through the lead.
-ghost use Rattle.std.specs.Prelude.{◌≡◌, ◌+◌, ◌<◌, ◌≤◌, ◌++◌, [], ◌∷◌, true, false, length, slice_index, OnOk, Contains, IsTrue, ◌↔◌};
+ghost use Rattle.std.specs.Prelude.{◌≡◌, ◌+◌, ◌<◌, ◌≤◌, ◌++◌, ℕ, List, [], ◌∷◌, true, false, length, slice_index, OnOk, Contains, IsTrue, ◌↔◌};
 ghost use Rattle.nv_calls.specs.Calls.{request};
 ghost use Rattle.nv_calls.specs.Logs.{served, live_after, IsLawful};
+ghost use Rattle.nv_calls.specs.Hands.{with_hand};
 ghost use Rattle.nv_calls.specs.Learning.{GoesOn};
 ghost use Rattle.nv_calls.specs.Shapes.{IsShaped};
 ghost use Rattle.nv_calls.specs.Limits.{MOST_BYTES, MOST_EVENTS};
@@ -61,6 +62,7 @@ impl<K: SyscallKernel> Lead<K> {
         ensures log { K.log (kernel_of self.new) ≡ K.log (kernel_of self.old) }
         ensures start { K.start (kernel_of self.new) ≡ K.start (kernel_of self.old) }
         ensures known { GoesOn (K.log (kernel_of self.old)) (K.known (kernel_of self.old)) (K.known (kernel_of self.new)) }
+        ensures handed { (lengths : List ℕ) → K.handed (kernel_of self.old) lengths → K.handed (kernel_of self.new) lengths }
         ensures ready { OnOk result (K.is_ready (kernel_of self.new) (request call.now)) }
     {
         self.kernel.reserve(call)
@@ -79,13 +81,14 @@ impl<K: SyscallKernel> Lead<K> {
         ensures log { K.log (kernel_of self.new) ≡ K.log (kernel_of self.old) ++ served (K.known (kernel_of self.old)) (K.log (kernel_of self.old)) (request call.now) ∷ [] }
         ensures start { K.start (kernel_of self.new) ≡ K.start (kernel_of self.old) }
         ensures known { K.known (kernel_of self.new) ≡ K.known (kernel_of self.old) }
+        ensures handed { (lengths : List ℕ) → K.handed (kernel_of self.old) lengths → K.handed (kernel_of self.new) lengths }
     {
         self.kernel.serve(call);
         let _end = self.kernel.ended();
         self.due = true;
     }
 
-    /// Whether the kernel asks the lead to hand over here. Nothing of the room's changes, and the lead need not do so.
+    /// Whether the kernel asks the lead to hand over here. Nothing of the room's changes.
     pub fn hands_over(&mut self) -> bool
         ensures same { SameLead self.old self.new }
         ensures view { lead_view self.new ≡ lead_view self.old }
@@ -93,6 +96,7 @@ impl<K: SyscallKernel> Lead<K> {
         ensures log { K.log (kernel_of self.new) ≡ K.log (kernel_of self.old) }
         ensures start { K.start (kernel_of self.new) ≡ K.start (kernel_of self.old) }
         ensures known { K.known (kernel_of self.new) ≡ K.known (kernel_of self.old) }
+        ensures handed { (lengths : List ℕ) → K.handed (kernel_of self.old) lengths → K.handed (kernel_of self.new) (with_hand result (length (K.log (kernel_of self.old))) lengths) }
     {
         self.kernel.hands_over()
     }

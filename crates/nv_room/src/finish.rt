@@ -50,13 +50,14 @@ fn join_all<K: SyscallKernel>(
 impl<K: SyscallKernel> Room<K> {
     /// Every version's seat has left. The kernel has the whole history; each seat's seen list is a prefix of it,
     /// what it has read of a further event begins the event that follows, and the spans that the versions led
-    /// tile it in order of station. It takes no memory.
+    /// tile it in order of station. At the end of those that were given up where no length is planned the kernel had asked for
+    /// it, and nowhere else. It takes no memory.
     pub fn finish(self, mut left: Vec<Left<K>>) -> Ended<K>
         requires { IsEach self left.items }
         ensures start { K.start result.kernel ≡ K.start (origin self) }
         ensures legal { IsLegal (K.known result.kernel) (K.log result.kernel) }
         ensures lawful { IsLawful (K.log result.kernel) }
-        ensures left { AllTell (map spell (K.log result.kernel)) result.seen.items left.items }
+        ensures left { AllTell self result.kernel (map spell (K.log result.kernel)) result.seen.items left.items }
         ensures wide { length result.seen.items ≡ versions_of self }
     {
         let Room {

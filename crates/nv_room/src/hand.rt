@@ -4,7 +4,7 @@ ghost use Rattle.nv_calls.specs.Logs.{live_after};
 ghost use Rattle.nv_words.specs.Spelling.{spell};
 ghost use Rattle.nv_room.specs.Owner.{free, closed, owner_word, owner_at, is_free, is_closed};
 ghost use Rattle.nv_room.specs.Steps.{as_leaving, as_lead, as_gone};
-ghost use Rattle.nv_room.specs.Seats.{IsOfRoom, IsLeadOf, IsLeavingOf, IsLeftOf, view, lead_view, leaving_view, left_view, station_of_reader, version_of_reader, station_of_lead, version_of_lead, station_of_leaving, version_of_leaving, station_of_left, version_of_left, kernel_of, due_of, origin};
+ghost use Rattle.nv_room.specs.Seats.{IsOfRoom, IsLeadOf, IsLeavingOf, IsLeftOf, view, lead_view, leaving_view, left_view, station_of_reader, version_of_reader, station_of_lead, version_of_lead, station_of_leaving, version_of_leaving, station_of_left, version_of_left, kernel_of, due_of, origin, AskedSoFar};
 
 use crate::plays::{GiveUp, Leave, Take};
 use crate::room::{Lead, Leaving, Left, Reader, Room, STATIONS};
@@ -30,6 +30,7 @@ impl<K: SyscallKernel> Room<K> {
     pub fn retire_step(&self, lead: Lead<K>) -> Leaving<K>
         requires of { IsLeadOf self.now lead }
         requires none_due { due_of lead ≡ false }
+        requires asked { AskedSoFar self.now lead }
         ensures of { IsLeavingOf self.now result }
         ensures station { (station_of_leaving result ≡ station_of_lead lead) × (version_of_leaving result ≡ version_of_lead lead) }
         ensures view { leaving_view result ≡ as_leaving (lead_view lead) (leaving_view result).owner_last }
@@ -44,6 +45,7 @@ impl<K: SyscallKernel> Room<K> {
     pub fn close_step(&self, lead: Lead<K>) -> Leaving<K>
         requires of { IsLeadOf self.now lead }
         requires none_due { due_of lead ≡ false }
+        requires asked { AskedSoFar self.now lead }
         requires ended { live_after (K.log (kernel_of lead)) ≡ [] }
         ensures of { IsLeavingOf self.now result }
         ensures station { (station_of_leaving result ≡ station_of_lead lead) × (version_of_leaving result ≡ version_of_lead lead) }
@@ -59,6 +61,7 @@ impl<K: SyscallKernel> Room<K> {
     fn give_up(&self, lead: Lead<K>, word: u64) -> Leaving<K>
         requires of { IsLeadOf self.now lead }
         requires none_due { due_of lead ≡ false }
+        requires asked { AskedSoFar self.now lead }
         requires word { (word ≡ owner_word free lead.station lead.opened lead.seen) ⊎ ((word ≡ owner_word closed lead.station lead.opened lead.seen) × (live_after (K.log (kernel_of lead)) ≡ [])) }
         ensures of { IsLeavingOf self.now result }
         ensures station { (station_of_leaving result ≡ station_of_lead lead) × (version_of_leaving result ≡ version_of_lead lead) }
@@ -93,16 +96,18 @@ impl<K: SyscallKernel> Room<K> {
         }
     }
 
-    /// The kernel comes to the reader, with the history that it has seen.
+    /// The kernel comes to the reader, with the history that it has seen. What it has asked for since the room was made is what the
+    /// lead's view tells.
     pub fn take_step(&self, reader: Reader<K>) -> Lead<K>
         requires of { IsOfRoom self.now reader }
         requires freed { (view reader).freed ≡ Some (length (view reader).seen) }
         ensures of { IsLeadOf self.now result }
         ensures station { (station_of_lead result ≡ station_of_reader reader) × (version_of_lead result ≡ version_of_reader reader) }
-        ensures view { lead_view result ≡ as_lead (view reader) }
+        ensures view { lead_view result ≡ as_lead (lead_view result).asked (view reader) }
         ensures due { due_of result ≡ false }
         ensures log { map spell (K.log (kernel_of result)) ≡ (view reader).seen }
         ensures start { K.start (kernel_of result) ≡ K.start (origin self.now) }
+        ensures asked { AskedSoFar self.now result }
     {
         let Reader {
             mut seat,

@@ -2,10 +2,11 @@
 ghost use Rattle.std.specs.Prelude.{◌≡◌, ◌<◌, ◌≤◌, [], ◌∷◌, true, false, length};
 ghost use Rattle.nv_calls.specs.Logs.{IsLawful};
 ghost use Rattle.nv_room.specs.Owner.{is_free, owner_at, opened_at};
+ghost use Rattle.nv_room.specs.Planned.{asked_then};
 ghost use Rattle.nv_room.specs.Spans.{LastHasEvent};
-ghost use Rattle.nv_room.specs.Room.{MayHand};
+ghost use Rattle.nv_room.specs.Room.{MayHand, Became};
 ghost use Rattle.nv_room.specs.Steps.{as_opening, as_moving, as_reader};
-ghost use Rattle.nv_room.specs.Seats.{IsOfRoom, IsLeadOf, IsOpeningOf, IsMovingOf, view, lead_view, opening_view, moving_view, due_of, stations_of, hands_of};
+ghost use Rattle.nv_room.specs.Seats.{IsOfRoom, IsLeadOf, IsOpeningOf, IsMovingOf, view, lead_view, opening_view, opening_kernel, moving_view, kernel_of, due_of, stations_of, hands_of, origin};
 
 use crate::plays::{Hand, LookSpare, Move, OpenNext};
 use crate::room::{Lead, Moving, Opening, Reader, Room};
@@ -23,6 +24,7 @@ impl<K: SyscallKernel> Room<K> {
         ensures of { IsOpeningOf self.now result }
         ensures view { opening_view result ≡ as_opening (lead_view lead) }
         ensures above { (lead_view lead).station < (lead_view lead).opened }
+        ensures kernel { opening_kernel result ≡ kernel_of lead }
     {
         let Lead {
             mut seat,
@@ -56,9 +58,11 @@ impl<K: SyscallKernel> Room<K> {
         }
     }
 
-    /// The kernel goes home, the room is free at head, and the new station is open.
+    /// The kernel goes home, the room is free at head, and the new station is open. Where no length is planned the kernel has just
+    /// asked for it.
     pub fn hand_step(&self, opening: Opening<K>) -> Moving<K>
         requires of { IsOpeningOf self.now opening }
+        requires asked { Became K.start K.handed (origin self.now) (opening_kernel opening) (asked_then (hands_of self.now) (length (opening_view opening).seen) (opening_view opening).asked) }
         ensures of { IsMovingOf self.now result }
         ensures view { moving_view result ≡ as_moving (opening_view opening) (moving_view result).owner_last }
         ensures given { (is_free (moving_view result).owner_last ≡ true) × (owner_at (moving_view result).owner_last ≡ length (opening_view opening).seen) }

@@ -4,7 +4,7 @@ ghost use Rattle.std.specs.Bool.{OnTrue};
 ghost use Rattle.nv_calls.specs.Calls.{request, entry};
 ghost use Rattle.nv_calls.specs.Logs.{live_after, IsLegal};
 ghost use Rattle.nv_calls.specs.Shapes.{IsShaped};
-ghost use Rattle.nv_room.specs.Seats.{IsOfRoom, IsLeadOf, IsLeftOf, FreshReaders, view, due_of, kernel_of, origin, version_of_lead, version_of_left, version_of_reader, versions_of};
+ghost use Rattle.nv_room.specs.Seats.{IsOfRoom, IsLeadOf, IsLeftOf, FreshReaders, view, due_of, kernel_of, origin, version_of_lead, version_of_left, version_of_reader, versions_of, AskedSoFar};
 ghost use Rattle.nv_room_tests.specs.Going.{GoesOn};
 ghost use Rattle.nv_room_tests.specs.Backs.{HasReadNothing};
 
@@ -52,7 +52,7 @@ fn lead_in_turn<K: SyscallKernel + Recorded>(
     call: &Call,
     last: &Call,
 ) -> Option<(Left<K>, Left<K>, Left<K>)>
-    requires lead { IsLeadOf room.now lead × (due_of lead ≡ false) }
+    requires lead { IsLeadOf room.now lead × (due_of lead ≡ false) × AskedSoFar room.now lead }
     requires readers { FreshReaders room.now readers.items × (length readers.items ≡ 2) }
     requires shaped { IsShaped (request call.now) × IsShaped (request last.now) }
     requires first { (call.now.tid ≡ FIRST_THREAD) × (last.now.tid ≡ FIRST_THREAD) }
@@ -88,7 +88,7 @@ fn first_leads<K: SyscallKernel + Recorded>(
     third: &mut Reader<K>,
     call: &Call,
 ) -> Option<Left<K>>
-    requires lead { IsLeadOf room.now lead × (due_of lead ≡ false) }
+    requires lead { IsLeadOf room.now lead × (due_of lead ≡ false) × AskedSoFar room.now lead }
     requires third { HasReadNothing room.now third.old }
     requires shaped { IsShaped (request call.now) }
     requires first { call.now.tid ≡ FIRST_THREAD }
@@ -166,12 +166,14 @@ pub(crate) fn publish_some<K: SyscallKernel + Recorded>(
 ) -> bool
     requires of { IsLeadOf room.now lead.old }
     requires none_due { due_of lead.old ≡ false }
+    requires asked { AskedSoFar room.now lead.old }
     requires shaped { IsShaped (request call.now) }
     requires first { call.now.tid ≡ FIRST_THREAD }
     requires lives { Contains (live_after (K.log (kernel_of lead.old))) FIRST_THREAD }
     requires goes_on { GoesOn (request call.now) }
     ensures of { IsLeadOf room.now lead.new }
     ensures due { due_of lead.new ≡ false }
+    ensures asked { AskedSoFar room.now lead.new }
     ensures version { version_of_lead lead.new ≡ version_of_lead lead.old }
     ensures lives { OnTrue result (Contains (live_after (K.log (kernel_of lead.new))) FIRST_THREAD) }
 {
@@ -216,6 +218,7 @@ pub(crate) fn take_over<K: SyscallKernel + Recorded>(
     requires none_read { (view reader).read ≡ [] }
     ensures of { IfSome result (λ l. IsLeadOf room.now l) }
     ensures due { IfSome result (λ l. due_of l ≡ false) }
+    ensures asked { IfSome result (λ l. AskedSoFar room.now l) }
     ensures version { IfSome result (λ l. version_of_lead l ≡ version_of_reader reader) }
 {
     if !is_free(room, &mut reader, buf, events) {
@@ -257,6 +260,7 @@ pub(crate) fn end_lead<K: SyscallKernel + Recorded>(
 ) -> Option<Left<K>>
     requires of { IsLeadOf room.now lead }
     requires none_due { due_of lead ≡ false }
+    requires asked { AskedSoFar room.now lead }
     requires shaped { IsShaped (request last.now) }
     requires lives { Contains (live_after (K.log (kernel_of lead))) last.now.tid }
     requires ends { last.now.nr ≡ EXIT_GROUP }

@@ -4,7 +4,7 @@ ghost use Rattle.std.specs.Bool.{OnTrue};
 ghost use Rattle.nv_calls.specs.Calls.{request};
 ghost use Rattle.nv_calls.specs.Logs.{served, live_after, IsLegal, IsLawful};
 ghost use Rattle.nv_calls.specs.Shapes.{IsShaped};
-ghost use Rattle.nv_room.specs.Seats.{IsOfRoom, IsLeadOf, IsLeftOf, FreshReaders, view, due_of, kernel_of, origin, version_of_lead, version_of_left, version_of_reader, versions_of};
+ghost use Rattle.nv_room.specs.Seats.{IsOfRoom, IsLeadOf, IsLeftOf, FreshReaders, view, due_of, kernel_of, origin, version_of_lead, version_of_left, version_of_reader, versions_of, AskedSoFar};
 ghost use Rattle.nv_room_tests.specs.Backs.{HasReadNothing, LeftInOrder};
 ghost use Rattle.nv_room_tests.specs.Scripts.{AreCalls};
 
@@ -42,7 +42,7 @@ pub fn run<R: Threads + Sync, K: SyscallKernel + Recorded>(
     let (room, readers, lead) = Room::make(alloc, kernel, versions, places, &hands)?;
     let shared = &room;
     let head = move || -> Left<K>
-        requires { IsLeadOf shared.now lead × (due_of lead ≡ false) × (version_of_lead lead ≡ 0) × AreCalls script.now }
+        requires { IsLeadOf shared.now lead × (due_of lead ≡ false) × (version_of_lead lead ≡ 0) × AskedSoFar shared.now lead × AreCalls script.now }
         ensures { IsLeftOf shared.entry.now result × (version_of_left result ≡ 0) }
     { lead_share(shared, lead, script) };
     let tail = move || -> Result<Vec<Left<K>>, AllocError>
@@ -159,6 +159,7 @@ fn lead_share<K: SyscallKernel + Recorded>(
 ) -> Left<K>
     requires of { IsLeadOf room.now lead }
     requires none_due { due_of lead ≡ false }
+    requires asked { AskedSoFar room.now lead }
     requires calls { AreCalls script.now }
     ensures of { IsLeftOf room.now result }
     ensures version { version_of_left result ≡ version_of_lead lead }
@@ -183,10 +184,12 @@ fn publish_share<K: SyscallKernel + Recorded>(
 ) -> bool
     requires of { IsLeadOf room.now lead.old }
     requires none_due { due_of lead.old ≡ false }
+    requires asked { AskedSoFar room.now lead.old }
     requires calls { AreCalls script.now }
     requires lives { Contains (live_after (K.log (kernel_of lead.old))) FIRST_THREAD }
     ensures of { IsLeadOf room.now lead.new }
     ensures due { due_of lead.new ≡ false }
+    ensures asked { AskedSoFar room.now lead.new }
     ensures version { version_of_lead lead.new ≡ version_of_lead lead.old }
     ensures lives { OnTrue result (Contains (live_after (K.log (kernel_of lead.new))) FIRST_THREAD) }
 {
@@ -211,10 +214,12 @@ fn publish_next<K: SyscallKernel + Recorded>(
 ) -> bool
     requires of { IsLeadOf room.now lead.old }
     requires none_due { due_of lead.old ≡ false }
+    requires asked { AskedSoFar room.now lead.old }
     requires calls { AreCalls script.now }
     requires lives { Contains (live_after (K.log (kernel_of lead.old))) FIRST_THREAD }
     ensures of { IsLeadOf room.now lead.new }
     ensures due { due_of lead.new ≡ false }
+    ensures asked { AskedSoFar room.now lead.new }
     ensures version { version_of_lead lead.new ≡ version_of_lead lead.old }
     ensures lives { OnTrue result (Contains (live_after (K.log (kernel_of lead.new))) FIRST_THREAD) }
 {
@@ -234,10 +239,12 @@ pub(crate) fn publish_one<K: SyscallKernel + Recorded>(
 ) -> bool
     requires of { IsLeadOf room.now lead.old }
     requires none_due { due_of lead.old ≡ false }
+    requires asked { AskedSoFar room.now lead.old }
     requires shaped { IsShaped (request call.now) }
     requires lives { Contains (live_after (K.log (kernel_of lead.old))) call.now.tid }
     ensures of { IsLeadOf room.now lead.new }
     ensures due { due_of lead.new ≡ false }
+    ensures asked { AskedSoFar room.now lead.new }
     ensures version { version_of_lead lead.new ≡ version_of_lead lead.old }
     ensures log { OnTrue result (K.log (kernel_of lead.new) ≡ K.log (kernel_of lead.old) ++ served (K.known (kernel_of lead.new)) (K.log (kernel_of lead.old)) (request call.now) ∷ []) }
 {

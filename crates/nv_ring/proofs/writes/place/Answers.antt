@@ -11,7 +11,7 @@ use Rattle.nv_ring.proofs.writes.place.Goals as goal
 pub loop-station-init : goal.loop-station-init
 loop-station-init g c = record {
   of = c.requires;
-  same = (refl, refl, refl, refl, refl);
+  same = (refl, refl, refl, refl, refl, refl);
   due = refl;
   kernel = refl;
   seen = refl;
@@ -67,7 +67,7 @@ loop-station-preserved g c =
     ] in
     record {
       of = e.of;
-      same = (e.same.0 ∙ i.same.0, e.same.1 ∙ i.same.1, e.same.2 ∙ i.same.2, e.same.3 ∙ i.same.3, e.same.4 ∙ i.same.4);
+      same = (e.same.0 ∙ i.same.0, e.same.1 ∙ i.same.1, e.same.2 ∙ i.same.2, e.same.3 ∙ i.same.3, e.same.4 ∙ i.same.4, e.same.5 ∙ i.same.5);
       due = e.due ∙ i.due;
       kernel = e.kernel ∙ i.kernel;
       seen = same;

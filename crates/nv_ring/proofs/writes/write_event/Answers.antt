@@ -89,7 +89,7 @@ loop-i-preserved g c =
     let t = c.loop-i-test.true in
     record {
       of = w.of;
-      same = (w.same.0 ∙ i.same.0, w.same.1 ∙ i.same.1, w.same.2 ∙ i.same.2, w.same.3 ∙ i.same.3, w.same.4 ∙ i.same.4);
+      same = (w.same.0 ∙ i.same.0, w.same.1 ∙ i.same.1, w.same.2 ∙ i.same.2, w.same.3 ∙ i.same.3, w.same.4 ∙ i.same.4, w.same.5 ∙ i.same.5);
       due = w.due ∙ i.due;
       kernel = w.kernel ∙ i.kernel;
       seen = ap (λ v. v.seen) w.view ∙ i.seen;

@@ -13,4 +13,4 @@ loop-event-preserved g c =
     let log : List Entry = g.K.SyscallKernel.log (kernel_of c.loop-event.lead) in
     let e : Entry = served (g.K.SyscallKernel.known (kernel_of c.publish_one.new.lead)) log (request c.args.call.now) in
     let more : g.K.SyscallKernel.log (kernel_of c.publish_one.new.lead) ≡ log ++ e ∷ [] = c.if-not-publish_one.ensures.log in
-    record { of = p.of; due = p.due; version = p.version ∙ i.version; lives = subst (λ (z : List Entry). Contains (live_after z) 100) (sym more) (lives_on log e 100 c.requires.goes_on i.lives) }
+    record { of = p.of; due = p.due; asked = p.asked; version = p.version ∙ i.version; lives = subst (λ (z : List Entry). Contains (live_after z) 100) (sym more) (lives_on log e 100 c.requires.goes_on i.lives) }

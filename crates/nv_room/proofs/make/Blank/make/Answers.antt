@@ -1,4 +1,4 @@
-use Rattle.std.proofs.Common.{rules, arith, ap, sym, subst, ◌∙◌, ℕ, ◌≡◌, ◌*◌, List, ◌<◌, length, set, replicate}
+use Rattle.std.proofs.Common.{arith, ap, sym, subst, ◌∙◌, ℕ, ◌*◌, List, ◌<◌, length, set, replicate}
 use Rattle.std.proofs.Math.ListN.{length-replicate}
 use Rattle.nv_room.proofs.Placement.{header_inside}
 use Rattle.nv_room.proofs.make.Blank.make.Goals as goal

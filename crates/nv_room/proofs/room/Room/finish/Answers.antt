@@ -2,6 +2,7 @@ use Rattle.std.proofs.Common.{arith, refl, sym, ap, ◌≡◌, ◌∙◌, ◌<�
 use Rattle.std.specs.Prelude.{Some, None}
 use mathlib.Core.Option.{some-injective}
 use Rattle.nv_words.specs.Spelling.{spell}
+use Rattle.nv_room.specs.Room.{Became}
 use Rattle.nv_room.specs.Lefts.{LeftsOf, AllTell}
 use Rattle.nv_room.proofs.Back.{last_left, fewer}
 use Rattle.nv_room.proofs.Placement.{header_inside}
@@ -66,7 +67,7 @@ unreachable-requires-in_default-take g c =
     let mine = seats.table (length rest) base (last_left all rest base is) in
     let same = c.join_all.ensures.same.2 in let counted = c.join_all.ensures.counts in
     let each = λ (s : ℕ) (l : s < room.table.shared.key.versions). every_left room.versions all rest base _ _ _ is counted c.requires.1 c.join_all.new.seat.me.0 same s (subst (λ (z : ℕ). s < z) room.sizes.4 l) in
-    let a = at_last_state g.K.SyscallKernel.log g.K.SyscallKernel.start room.table.shared.key _ c.join_all.new.seat.me.0 _ _ c.close_with-closed.ensures.values.2 (ap (λ v. v.role) same ∙ base.role) each in
+    let a = at_last_state g.K.SyscallKernel.log (Became g.K.SyscallKernel.start g.K.SyscallKernel.handed) room.table.shared.key _ c.join_all.new.seat.me.0 _ _ c.close_with-closed.ensures.values.2 (ap (λ v. v.role) same ∙ base.role) each in
     let e : Some a.kernel ≡ None = some-injective (Some a.kernel) None (sym a.out ∙ c.in_default-take.ensures.value) in cc
 
 pub returns-clause-start : goal.returns-clause-start
@@ -80,9 +81,9 @@ returns-clause-start g c =
     let mine = seats.table (length rest) base (last_left all rest base is) in
     let same = c.join_all.ensures.same.2 in let counted = c.join_all.ensures.counts in
     let each = λ (s : ℕ) (l : s < room.table.shared.key.versions). every_left room.versions all rest base _ _ _ is counted c.requires.1 c.join_all.new.seat.me.0 same s (subst (λ (z : ℕ). s < z) room.sizes.4 l) in
-    let a = at_last_state g.K.SyscallKernel.log g.K.SyscallKernel.start room.table.shared.key _ c.join_all.new.seat.me.0 _ _ c.close_with-closed.ensures.values.2 (ap (λ v. v.role) same ∙ base.role) each in
+    let a = at_last_state g.K.SyscallKernel.log (Became g.K.SyscallKernel.start g.K.SyscallKernel.handed) room.table.shared.key _ c.join_all.new.seat.me.0 _ _ c.close_with-closed.ensures.values.2 (ap (λ v. v.role) same ∙ base.role) each in
     let q : Some a.kernel ≡ Some c.in-Some-take.kernel = some-injective (Some a.kernel) (Some c.in-Some-take.kernel) (sym a.out ∙ c.in-Some-take.ensures.value) in let e : a.kernel ≡ c.in-Some-take.kernel = cc in
-    ap g.K.SyscallKernel.start (sym e) ∙ a.start
+    ap g.K.SyscallKernel.start (sym e) ∙ a.became.0
 
 pub returns-clause-left : goal.returns-clause-left
 returns-clause-left g c =
@@ -95,7 +96,7 @@ returns-clause-left g c =
     let mine = seats.table (length rest) base (last_left all rest base is) in
     let same = c.join_all.ensures.same.2 in let counted = c.join_all.ensures.counts in
     let each = λ (s : ℕ) (l : s < room.table.shared.key.versions). every_left room.versions all rest base _ _ _ is counted c.requires.1 c.join_all.new.seat.me.0 same s (subst (λ (z : ℕ). s < z) room.sizes.4 l) in
-    let a = at_last_state g.K.SyscallKernel.log g.K.SyscallKernel.start room.table.shared.key _ c.join_all.new.seat.me.0 _ _ c.close_with-closed.ensures.values.2 (ap (λ v. v.role) same ∙ base.role) each in
+    let a = at_last_state g.K.SyscallKernel.log (Became g.K.SyscallKernel.start g.K.SyscallKernel.handed) room.table.shared.key _ c.join_all.new.seat.me.0 _ _ c.close_with-closed.ensures.values.2 (ap (λ v. v.role) same ∙ base.role) each in
     let q : Some a.kernel ≡ Some c.in-Some-take.kernel = some-injective (Some a.kernel) (Some c.in-Some-take.kernel) (sym a.out ∙ c.in-Some-take.ensures.value) in let e : a.kernel ≡ c.in-Some-take.kernel = cc in
-    subst (λ k. AllTell (map spell (g.K.SyscallKernel.log k)) (set c.join_all.new.counts.items base.version base.seen) all) e
-    (all_tell room.versions room.table.shared.table_id all rest base _ _ _ _ is seats counted (sym room.memory) refl room.table.shared.key.versions room.table.shared.key.start.value c.join_all.new.seat.me.0 _ room.sizes.4 same a)
+    subst (λ k. AllTell room k (map spell (g.K.SyscallKernel.log k)) (set c.join_all.new.counts.items base.version base.seen) all) e
+    (all_tell room room.versions room.table.shared.table_id all rest base _ _ _ _ is seats counted (sym room.memory) refl room.table.shared.key.versions c.join_all.new.seat.me.0 _ room.sizes.4 same a)

@@ -4,6 +4,10 @@ use Rattle.std.specs.Option.{ForSome}
 use Rattle.atomic_table.specs.Table.{rest}
 use Rattle.nv_room.specs.Owner.{free, owner_word}
 use Rattle.nv_room.specs.Trails.{Trails}
+use Rattle.std.specs.declared.snapshot.Snapshot.{Snapshot}
+use Rattle.std.proofs.lemmas.Option.{same_Some}
+use Rattle.nv_room.specs.Planned.{asked_then}
+use Rattle.nv_room.specs.Room.{Became}
 use Rattle.nv_room.proofs.Placement.{header_inside}
 use Rattle.nv_room.proofs.HandingOver.{hands_on}
 use Rattle.nv_room.proofs.room.Room.hand_step.Goals as goal
@@ -12,9 +16,11 @@ pub store-requires : goal.store-requires
 store-requires g c = let room = c.args.self.now in let o = c.args.opening in let e = c.exchange-inside.ensures.3 in let v = ap (λ m. m.0) e in (
   c.exchange-inside.ensures.0 ∙ c.requires.of.0.0,
   subst (λ (z : ℕ). 0 < z) (sym room.sizes.2) (header_inside _ _ 0 (omega arith)),
-  hands_on g.K.SyscallKernel.log g.K.SyscallKernel.start room.table.shared.key _ _ _ o.kernel c.exchange-inside.new.seat.me (ap (λ w. w.role) v ∙ o.role)
+  hands_on g.K.SyscallKernel.log (Became g.K.SyscallKernel.start g.K.SyscallKernel.handed) room.table.shared.key _ _ _ o.kernel c.exchange-inside.new.seat.me (ap (λ w. w.role) v ∙ o.role)
       (ap (λ m. m.1) e ∙ ap (λ q. (0, Some o.kernel) ∷ rest q) o.holds) (o.history ∙ sym (ap (λ w. w.seen) v)) c.tell_lawful.ensures
-      (subst (λ w. ForSome w.start (λ s. g.K.SyscallKernel.start o.kernel ≡ g.K.SyscallKernel.start s.value)) (sym v) o.began)
+      (subst (λ w. ForSome w.start (λ s. Became g.K.SyscallKernel.start g.K.SyscallKernel.handed s.value o.kernel (asked_then room.table.shared.key.hands.value.items (length w.seen) w.asked))) (sym v)
+      (λ z s. subst (λ (y : Snapshot g.row.K.Denot). Became g.K.SyscallKernel.start g.K.SyscallKernel.handed y.value o.kernel (asked_then room.table.shared.key.hands.value.items (length o.seat.me.0.seen) o.seat.me.0.asked))
+      (same_Some room.table.shared.key.start z (sym c.requires.of.0.4 ∙ s)) c.requires.asked))
       (λ j. owner_word free ((sym o.station_is ∙ sym (ap (λ w. w.station) v)) j) ((sym o.opened_is ∙ sym (ap (λ w. w.opened) v)) j + 1) ((sym o.seen_is ∙ sym (ap (λ w. length w.seen) v)) j)),
 )
 
