@@ -10,15 +10,15 @@ use Rattle.nv_threads.specs.Threads.{Proc, threads}
 use Rattle.nv_workers.specs.Ends.{IsAccount}
 use Rattle.nv_cli.specs.inner.Demands.{IsAccountOnDemand}
 
-module _ (on_demand : Bool) (judges : ℕ → Judge) (start : Start) (most : ℕ) (planned : List ℕ) (olds news : List (Running Proc)) (log : List Entry) where
+module _ (asks : List ℕ → Type 0) (on_demand : Bool) (judges : ℕ → Judge) (start : Start) (most : ℕ) (planned : List ℕ) (olds news : List (Running Proc)) (log : List Entry) where
   -- over these lengths
   abbrev Over : List ℕ → Type 0
   Over hands = IsAccount threads judges start most hands olds news log
 
   -- where none was asked for
-  pub unasked : Over planned → NoneLetGo (map standing_of news) → IsAccountOnDemand on_demand judges start most planned olds news log
-  unasked a s = record { asked = []; only = λ off. refl; stays = λ off. s; is_account = subst Over (sym (append-nil planned)) a }
+  pub unasked : asks [] → Over planned → NoneLetGo (map standing_of news) → IsAccountOnDemand asks on_demand judges start most planned olds news log
+  unasked none a s = record { asked = []; asks_for = none; only = λ off. refl; stays = λ off. s; is_account = subst Over (sym (append-nil planned)) a }
 
   -- nothing may be demanded
-  pub planned_alone : on_demand ≡ false → IsAccountOnDemand on_demand judges start most planned olds news log → Over planned
+  pub planned_alone : on_demand ≡ false → IsAccountOnDemand asks on_demand judges start most planned olds news log → Over planned
   planned_alone off a = subst Over (ap (λ (more : List ℕ). planned ++ more) (a.only off) ∙ append-nil planned) a.is_account

@@ -10,7 +10,7 @@ use Rattle.nv_arriving.specs.Arriving.{first_stage, start_of_arrivals, Satisfied
 use Rattle.nv_arriving.specs.Doings.{doings}
 use Rattle.nv_arriving.specs.Kernel.{Coming}
 use Rattle.nv_arriving.specs.Scripted.{start_from}
-use Rattle.nv_arriving.specs.Telling.{taken_before, are_at_most, Tells, IsTold}
+use Rattle.nv_arriving.specs.Telling.{taken_before, are_at_most, IsTold}
 use Rattle.nv_bpf.specs.declared.op.Op.{Op}
 use Rattle.nv_calls.specs.Calls.{Entry}
 use Rattle.nv_calls.specs.Logs.{calls_of}
@@ -147,10 +147,10 @@ module _ {I O T : Type 0} (took : I → Option (List (List ℕ))) (unread : I �
         (stood_at done t b) asked))
 
     -- what was done over the run of a log
-    lived : (arrivals : List Arrival) (log : List Entry) (done : List Doing) → IsTold (DidRun took unread moments said unsaid noted unnoted) first later setup arrivals log done
+    lived : (arrivals : List Arrival) (lengths : List ℕ) (log : List Entry) (done : List Doing) → IsTold (DidRun took unread moments said unsaid noted unnoted) first later setup arrivals log done → handings done ≡ lengths
         → Satisfied (first_stage setup arrivals) (calls_of log) ⊎ IsOver later
-        → Lived clients (with_arrivals setup arrivals) log ending (streams_of took unread moments said unsaid noted unnoted before) (streams_of took unread moments said unsaid noted unnoted after)
-    lived arrivals log done t waited =
+        → Lived clients (with_arrivals setup arrivals) lengths log ending (streams_of took unread moments said unsaid noted unnoted before) (streams_of took unread moments said unsaid noted unnoted after)
+    lived arrivals lengths log done t handed waited =
         let s = shown took unread moments said unsaid noted unnoted first later done t.is in
         let came = came_by (takings done) (handings done) (told took unread moments said unsaid noted unnoted first) begun s.came in
         let planned = s.planned setup.hands sound (begun.hands_are ∙ ap (λ way. hands_by way setup.hands) (sym begun.way)) in
@@ -158,6 +158,7 @@ module _ {I O T : Type 0} (took : I → Option (List (List ℕ))) (unread : I �
           done = done;
           took_all = t.took;
           said_all = t.said ∙ ap sayings (does_alike setup arrivals log);
+          handed_over = handed;
           no_sooner = ap (λ (all : List Doing). are_at_most (taken_before 0 all) (taken_before 0 done)) (sym (does_alike setup arrivals log)) ∙ t.no_sooner;
           stopped = source_stop later;
           line = line_of later;
@@ -182,19 +183,18 @@ module _ {I O T : Type 0} (took : I → Option (List (List ℕ))) (unread : I �
       → status ≡ run_status (map standing_of account.versions.items)
       → map process_of versions ≡ map (process_begun limits setup) machines → is_script setup ≡ true → IsTranscript head setup → setup.arrivals ≡ [] → IsPlanned setup hands
       → IsBegunOver took unread moments said unsaid noted unnoted clients setup head before kernel
-      → RanOver (told took unread moments said unsaid noted unnoted) clients kernel rules limits.calls hands versions account
-      → Tells (DidRun took unread moments said unsaid noted unnoted) account.kernel.answers.begun account.kernel.answers.outside account.kernel.setup account.kernel.answers.came account.kernel.log
+      → RanOver (told took unread moments said unsaid noted unnoted) (DidRun took unread moments said unsaid noted unnoted) clients kernel rules limits.calls hands versions account
       → Satisfied (first_stage account.kernel.setup account.kernel.answers.came) (calls_of account.kernel.log) ⊎ IsOver account.kernel.answers.outside
       → HasLeft noted unnoted account.kernel.answers.outside after ending
       → Served limits clients setup rules machines (streams_of took unread moments said unsaid noted unnoted before) sink faults status sink faults
       (streams_of took unread moments said unsaid noted unnoted after, ending)
-  served_by limits clients setup head rules hands versions machines before after ending kernel account sink faults status ends are script begins none planned begun ran tells waited left =
+  served_by limits clients setup head rules hands versions machines before after ending kernel account sink faults status ends are script begins none planned begun ran waited left =
       let k = account.kernel in
       let set : k.setup ≡ setup = ap (λ b. b.setup) ran.same ∙ begun.setup_is in
       let sound = (script-keeps setup script).hands in
       let first : IsBegun took unread moments said unsaid noted unnoted clients head setup.hands before (told took unread moments said unsaid noted unnoted k.answers.begun) =
       subst (λ t. IsBegun took unread moments said unsaid noted unnoted clients head setup.hands before t) (sym (ap (λ b. b.told) ran.same)) begun.begun in
-      let all = tells (begun-none took unread moments said unsaid noted unnoted k.answers.begun (begun-fresh took unread moments said unsaid noted unnoted clients head setup.hands before (told took unread moments said unsaid noted unnoted k.answers.begun) sound first)) in
+      let all = ran.account_is.asks_for.1 [] begun.unasked (begun-none took unread moments said unsaid noted unnoted k.answers.begun (begun-fresh took unread moments said unsaid noted unnoted clients head setup.hands before (told took unread moments said unsaid noted unnoted k.answers.begun) sound first)) in
       record {
         arrivals = k.answers.came;
         asked = ran.account_is.asked;
@@ -206,8 +206,8 @@ module _ {I O T : Type 0} (took : I → Option (List (List ℕ))) (unread : I �
             (ap (λ s. start_of_arrivals s k.answers.came) set ∙ begun_alike setup k.answers.came ran.account_is.asked) ran.account_is.is_account) ran.account_is.stays
             are;
         says = record { put = Ok tt; ends = ends; written = puts-none sink faults };
-        lived = lived clients setup sound head begins none before after k.answers.begun k.answers.outside first ending left k.answers.came k.log all.0
-            (subst (λ s. IsTold (DidRun took unread moments said unsaid noted unnoted) k.answers.begun k.answers.outside s k.answers.came k.log all.0) set all.1)
+        lived = lived clients setup sound head begins none before after k.answers.begun k.answers.outside first ending left k.answers.came ran.account_is.asked k.log all.0
+            (subst (λ s. IsTold (DidRun took unread moments said unsaid noted unnoted) k.answers.begun k.answers.outside s k.answers.came k.log all.0) set all.1) all.2
             (subst (λ s. Satisfied (first_stage s k.answers.came) (calls_of k.log) ⊎ IsOver k.answers.outside) set waited);
       }
 

@@ -42,7 +42,7 @@ use Rattle.nv_outside.specs.Told.{Told, told_content, MayFail, Grows}
 use Rattle.nv_replay.specs.Account.{IsSettled, AreSettled}
 use Rattle.nv_replay.specs.Covers.{AreEnded, times, led_times, Covers}
 use Rattle.nv_replay.specs.Follow.{Follower, fresh, Judge, no_rules, judge_of, consumed, judged, refusal_of, permit_by, refusal_by, met, decided, on_next, follow_next, follow, is_exited}
-use Rattle.nv_replay.specs.Hands.{has, is_handed, unless_handed, next_or_hand, lead_to_hand}
+use Rattle.nv_replay.specs.Hands.{is_handed, unless_handed, next_or_hand, lead_to_hand}
 use Rattle.nv_replay.specs.Lead.{Leader, is_cut, is_memory, cut_of, logged, led, unless_ended, next_call}
 use Rattle.nv_replay.specs.LettingGo.{is_let_go, NoneLetGo, stop_of, front as nv_replay_front, left_behind, let_go}
 use Rattle.nv_replay.specs.Monitor.{Part, Run, numbers, part, begun, with_span, led_line, after_lead, tracked_by, leads_on, turn_by, turn_of, turn_in, turn, told_standing, lines_of, account_of, sequence}
@@ -66,6 +66,7 @@ use Rattle.nv_calls.specs.Answers.{polled_count, selected_count, set_bytes, sets
 use Rattle.nv_calls.specs.Calls.{Request, Response, Entry, status_of, is_same}
 use Rattle.nv_calls.specs.Constants.{result_alone, utsname_field, names, system, directory, process, parent, user, unless_bad, constant_by, constant_of}
 use Rattle.nv_calls.specs.Errors.{ENOENT, EINTR, EBADF, EAGAIN, EFAULT, EEXIST, ENOTDIR, EINVAL, EMFILE, ENOTTY, EFBIG, ENOSPC, ESPIPE, EPIPE, ERANGE, ENAMETOOLONG, ENOSYS, ENOTSOCK, EADDRINUSE, ENOTCONN}
+use Rattle.nv_calls.specs.Hands.{has}
 use Rattle.nv_calls.specs.Held.{Held}
 use Rattle.nv_calls.specs.Limits.{MOST_BYTES, MOST_VECTORS, MOST_PATH, MOST_ADDRESS, MOST_POLLED, MOST_SELECTED, TIME_BYTES, POLLED_BYTES, EVENTS_BYTES, FIRST_THREAD, MOST_THREADS, MOST_EVENTS}
 use Rattle.nv_calls.specs.Logs.{made, child_of, with_child, live_next, live_from, live_after, Written, Start, call_of, calls_of, served, output_of, connections_of}

@@ -5,6 +5,7 @@ ghost use Rattle.nv_replay.specs.Account.{AreFresh};
 ghost use Rattle.nv_replay.specs.Follow.{judge_of};
 ghost use Rattle.nv_replay.specs.LettingGo.{NoneLetGo};
 ghost use Rattle.nv_replay.specs.Version.{standing_of};
+ghost use Rattle.nv_room.specs.Room.{Became};
 ghost use Rattle.nv_workers.specs.Ends.{IsAccount};
 ghost use Rattle.nv_cli.specs.inner.Demands.{IsAccountOnDemand};
 
@@ -20,7 +21,7 @@ use std::thread::Threads;
 
 /// Runs the versions over the kernel, each with its seat in one room, on threads of the host. The leader hands over at
 /// these lengths of the log, and on demand also where the kernel says so. What they come to is the account of the
-/// sequential monitor, which hands over at all these lengths. Where memory is wanted no call was served, and the kernel comes back.
+/// sequential monitor, which hands over at all these lengths, and demanded are just those at which the kernel said so. Where memory is wanted no call was served, and the kernel comes back.
 pub fn run_on_demand<R: Threads + Wait + Sync, K: SyscallKernel, G: Gate + Sync>(
     rt: &R,
     alloc: Global,
@@ -38,7 +39,7 @@ pub fn run_on_demand<R: Threads + Wait + Sync, K: SyscallKernel, G: Gate + Sync>
     requires hands { length hands.now.items ≤ 8 }
     ensures start { IfOk result (λ r. K.start r.kernel ≡ K.start kernel) }
     ensures same { IfErr result (λ given. given ≡ kernel) }
-    ensures account { IfOk result (λ r. IsAccountOnDemand on_demand (judge_of (option_map (λ f. f.now) rules.entry)) (K.known r.kernel) limits.calls hands.now.items versions.items r.versions.items (K.log r.kernel)) }
+    ensures account { IfOk result (λ r. IsAccountOnDemand (Became K.start K.handed kernel r.kernel) on_demand (judge_of (option_map (λ f. f.now) rules.entry)) (K.known r.kernel) limits.calls hands.now.items versions.items r.versions.items (K.log r.kernel)) }
 {
     if versions.is_empty() {
         return Ok(Account { kernel, versions });

@@ -323,8 +323,8 @@ module _ (words : List (List ℕ)) (source : Source) (service : Service) (asked 
       → Says [] (run_status account.lines) before faults status after later
       → Answers words source before faults status after later
   served_answers kept setup rules machines files arrivals lengths account only is_run says =
-      told_answers words source (Serves service) asked before faults status after later (Served (with_arrivals setup arrivals) account)
-      (serve_owes service source.holds (Ready setup rules machines) (Served (with_arrivals setup arrivals) account) files (arrivals, lengths, account, refl, only, is_run)) kept says
+      told_answers words source (Serves service) asked before faults status after later (Served (with_arrivals setup arrivals) lengths account)
+      (serve_owes service source.holds (Ready setup rules machines) (Served (with_arrivals setup arrivals) lengths account) files (arrivals, lengths, account, refl, only, is_run)) kept says
 
   -- memory was wanted of a live run
   abbrev pub starved_answers : source.later_faults ≡ source.faults → Says (text_of NoMemory) 3 before faults status after later → Answers words source before faults status after later

@@ -293,7 +293,7 @@ five (Recorded account) (Ok _) source n shown ends is = absurd (not_five n (run_
 five (Replayed at) (Ok _) source n shown ends is = absurd (two_not_five n (replay_done at.fate n ends) is)
 five (Shown text) (Ok _) source n shown ends is = absurd (omega arith)
 five (Helped topic) (Ok _) source n shown ends is = absurd (omega arith)
-five (Served setup account) (Ok _) source n shown ends is = absurd (not_five n (run_done account.lines n ends) is)
+five (Served setup asked account) (Ok _) source n shown ends is = absurd (not_five n (run_done account.lines n ends) is)
 five outcome (Err _) source n shown ends is = absurd (omega arith)
 
 six : (outcome : Outcome) (put : Put) (n : ℕ) → n ≡ ended_with put (outcome_status outcome) → n ≡ 6 → IsErr put
@@ -309,7 +309,7 @@ six (Recorded account) (Ok _) n ends is = absurd (not_six n (run_done account.li
 six (Replayed at) (Ok _) n ends is = absurd (two_not_six n (replay_done at.fate n ends) is)
 six (Shown text) (Ok _) n ends is = absurd (omega arith)
 six (Helped topic) (Ok _) n ends is = absurd (omega arith)
-six (Served setup account) (Ok _) n ends is = absurd (not_six n (run_done account.lines n ends) is)
+six (Served setup asked account) (Ok _) n ends is = absurd (not_six n (run_done account.lines n ends) is)
 
 -- the status of a text is never that of a write fault
 pub never_six : (outcome : Outcome) → outcome_status outcome ≡ 6 → ⊥

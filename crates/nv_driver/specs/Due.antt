@@ -120,7 +120,7 @@ abbrev pub ServeComesTo : Service → Prepared → Outcome → Type 0
 ServeComesTo service (Unreadable place) outcome = outcome ≡ NotRead (name_in place service)
 ServeComesTo service (Refused place cause) outcome = outcome ≡ NotAccepted FILE_LIMIT (name_in place service) cause
 ServeComesTo service (Ready setup rules machines) outcome =
-    (arrivals : List Arrival) × (asked : List ℕ) × (account : Account) × (outcome ≡ Served (with_arrivals setup arrivals) account)
+    (arrivals : List Arrival) × (asked : List ℕ) × (account : Account) × (outcome ≡ Served (with_arrivals setup arrivals) asked account)
     × (service.clients ≡ false → asked ≡ []) × IsRunOf service.clients service.limits (with_hands (with_arrivals setup arrivals) asked) rules machines account
 
 pub record ServeOwes (service : Service) (holds : List ℕ → Told) (outcome : Outcome) : Type 0 where
@@ -165,7 +165,7 @@ Shows (Recorded account) source = source.later_faults ≡ source.faults
 Shows (Replayed at) source = source.later_faults ≡ source.faults
 Shows (Shown text) source = source.later_faults ≡ source.faults
 Shows (Helped topic) source = IsUntouched source
-Shows (Served setup account) source = source.later_faults ≡ source.faults
+Shows (Served setup asked account) source = source.later_faults ≡ source.faults
 
 -- A text was written with its status; or a write failed, its count rose, a prefix of the text was written, and the status is 6.
 pub record Says (text : List ℕ) (text_status : ℕ) (before : Option (List ℕ)) (faults : ℕ) (status : ℕ) (after : Option (List ℕ)) (later_faults : ℕ) : Type 0 where
@@ -183,7 +183,7 @@ pub record Answers (words : List (List ℕ)) (source : Source) (before : Option 
 
 -- What a live run that came to this did over its streams, which have lines of clients or not. Where memory was wanted nobody was served.
 abbrev pub ServedOver : Bool → Outcome → Streams → Streams × Ending → Type 0
-ServedOver clients (Served setup account) before after = Lived clients setup account.log after.1 before after.0
+ServedOver clients (Served setup asked account) before after = Lived clients setup asked account.log after.1 before after.0
 ServedOver clients NoMemory before after = Unserved before after.0 × (after.1 ≡ Finished)
 ServedOver clients outcome before after = after ≡ (before, Finished)
 

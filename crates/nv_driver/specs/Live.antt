@@ -151,13 +151,15 @@ pub record StoodAt (clients : Bool) (before : Streams) (head : List ℕ) (done :
   pub noted : Puts before.noted before.unnoted (head ++ notes_on earlier) told moment.noted moment.unnoted
 
 -- A live run over these streams, by its log: what was taken and what was said are each in the log's order, and nothing was said before what the log's calls take in up to there was taken.
+-- Leaders handed over by operators' words at just the lengths that were asked for.
 -- No call waited in vain, or a stream had stopped: a read that failed or gave nothing, a line that was refused or cut off, or a failed write of what was said. So the guests were told of no end without one.
 -- The bytes are those of the streams: what was read, as plain input or as lines of clients, and so is what no call took; the bytes or the lines of what was said; and the transcript. That begins with a text that
 -- says what the run began with, is up to the last line of an arrival or of a hand-over a script that says the whole run (an arrival's numbers are bytes wherever bytes were read), and has what no call took behind it, as comments.
-pub record Lived (clients : Bool) (setup : Setup) (log : List Entry) (ending : Ending) (before after : Streams) : Type 0 where
+pub record Lived (clients : Bool) (setup : Setup) (lengths : List ℕ) (log : List Entry) (ending : Ending) (before after : Streams) : Type 0 where
   pub done : List Doing
   pub took_all : takings done ≡ setup.arrivals
   pub said_all : sayings done ≡ sayings (doings setup setup.arrivals log)
+  pub handed_over : handings done ≡ lengths
   pub no_sooner : are_at_most (taken_before 0 (doings setup setup.arrivals log)) (taken_before 0 done) ≡ true
   pub stopped : Option Stopped
   pub line : List ℕ

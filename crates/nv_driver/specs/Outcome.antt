@@ -49,8 +49,8 @@ pub data Outcome : Type 0 where
   Shown : List ℕ → Outcome
   -- how a command is used, or each of them
   Helped : Option Name → Outcome
-  -- a live run has its account, over what its script says and what came
-  Served : Setup → Account → Outcome
+  -- a live run has its account, over what its script says and what came, with the lengths at which leaders handed over by operators' words
+  Served : Setup → List ℕ → Account → Outcome
 
 -- the report of an account, with what was written to the connections, or its JSON form and a newline
 abbrev pub account_text : Bool → Setup → Account → List ℕ
@@ -93,7 +93,7 @@ text_of (Recorded account) = trace_of account.log
 text_of (Replayed at) = replay_text at
 text_of (Shown text) = text
 text_of (Helped topic) = help_of topic
-text_of (Served setup account) = []
+text_of (Served setup asked account) = []
 
 abbrev pub outcome_status : Outcome → ℕ
 outcome_status Usage = 2
@@ -107,7 +107,7 @@ outcome_status (Recorded account) = run_status account.lines
 outcome_status (Replayed at) = replay_status at.fate
 outcome_status (Shown text) = 0
 outcome_status (Helped topic) = 0
-outcome_status (Served setup account) = run_status account.lines
+outcome_status (Served setup asked account) = run_status account.lines
 
 -- a write fault takes the place of the other statuses
 abbrev pub ended_with : Put → ℕ → ℕ

@@ -60,7 +60,7 @@ risen ws i x le = record {
   cursors = λ t. set_up ws (cursor_index i) x (cursor_index t) le;
 }
 
-module _ {K B : Type 0} (hist : K → List Entry) (beg : K → B) (p : Layout K) (s : State (Option K) (View K)) (r : Rule hist beg p s) (u : View K) (id : ℕ) (at : get_elem? s.views id ≡ some u) where
+module _ {K : Type 0} (hist : K → List Entry) (came : K → K → List ℕ → Type 0) (p : Layout K) (s : State (Option K) (View K)) (r : Rule hist came p s) (u : View K) (id : ℕ) (at : get_elem? s.views id ≡ some u) where
   pub role_of : (role : Role) → u.role ≡ role → InRole p.stations p.places (moment r) u role
   role_of role is = subst (InRole p.stations p.places (moment r) u) is (r.each_seat id u at).in_role
 
@@ -80,7 +80,7 @@ module _ {K B : Type 0} (hist : K → List Entry) (beg : K → B) (p : Layout K)
   none_leads ne Spent is l = absurd l
 
   -- what a step of a seat that doesn't lead leaves of the words, unless it takes the lead
-  quiet : (st : Step (Option K)) (free : List (ℕ × Option K)) (next : Me (Option K) (View K)) (k : Kind) → Plays hist beg st (u, free) next k → (Leads u.role → ⊥) → (k ≡ takes → ⊥) → Quiet s.words (written p u s.words k)
+  quiet : (st : Step (Option K)) (free : List (ℕ × Option K)) (next : Me (Option K) (View K)) (k : Kind) → Plays hist came st (u, free) next k → (Leads u.role → ⊥) → (k ≡ takes → ⊥) → Quiet s.words (written p u s.words k)
   quiet st own next (looks_head x) q un nt = still s.words
   quiet st own next (looks_owner x) q un nt = still s.words
   quiet st own next (looks_cursor t x) q un nt = still s.words
@@ -101,7 +101,7 @@ module _ {K B : Type 0} (hist : K → List Entry) (beg : K → B) (p : Layout K)
   quiet st own next moves q un nt = risen s.words u.former GONE (let a = few in let c = (role_of Moving q.0).former_is_count in omega arith)
 
   -- no step takes an event away
-  head_up : (st : Step (Option K)) (own : List (ℕ × Option K)) (next : Me (Option K) (View K)) (k : Kind) → Plays hist beg st (u, own) next k → get_or s.words head_index 0 ≤ get_or (written p u s.words k) head_index 0
+  head_up : (st : Step (Option K)) (own : List (ℕ × Option K)) (next : Me (Option K) (View K)) (k : Kind) → Plays hist came st (u, own) next k → get_or s.words head_index 0 ≤ get_or (written p u s.words k) head_index 0
   head_up st own next (looks_head x) q = le_refl (get_or s.words head_index 0)
   head_up st own next (looks_owner x) q = le_refl (get_or s.words head_index 0)
   head_up st own next (looks_cursor t x) q = le_refl (get_or s.words head_index 0)
@@ -123,10 +123,10 @@ module _ {K B : Type 0} (hist : K → List Entry) (beg : K → B) (p : Layout K)
   head_up st own next moves q = let a = get_or-set_other s.words (cursor_index u.former) head_index GONE 0 (λ e. omega arith) in omega arith
 
   -- who takes the lead had noted that the room is free and all lower stations have left
-  taker : (st : Step (Option K)) (own : List (ℕ × Option K)) (next : Me (Option K) (View K)) (k : Kind) → Plays hist beg st (u, own) next k → k ≡ takes → (u.role ≡ Reader) × Freed (moment r) u.station u.opened (length u.seen)
-  taker st own next k q is = let t = subst (Plays hist beg st (u, own) next) is q in (t.0, (role_of Reader t.0).freed_stays (length u.seen) t.1)
+  taker : (st : Step (Option K)) (own : List (ℕ × Option K)) (next : Me (Option K) (View K)) (k : Kind) → Plays hist came st (u, own) next k → k ≡ takes → (u.role ≡ Reader) × Freed (moment r) u.station u.opened (length u.seen)
+  taker st own next k q is = let t = subst (Plays hist came st (u, own) next) is q in (t.0, (role_of Reader t.0).freed_stays (length u.seen) t.1)
 
-module _ {K B : Type 0} (hist : K → List Entry) (beg : K → B) (p : Layout K) (s s' : State (Option K) (View K)) (r : Rule hist beg p s) (r' : Rule hist beg p s') (id : ℕ) (k : Kind) (d : Does hist beg p s s' id k) (j : ℕ) (v : View K) (ne : j ≢ id) (at : get_elem? s.views j ≡ some v) where
+module _ {K : Type 0} (hist : K → List Entry) (came : K → K → List ℕ → Type 0) (p : Layout K) (s s' : State (Option K) (View K)) (r : Rule hist came p s) (r' : Rule hist came p s') (id : ℕ) (k : Kind) (d : Does hist came p s s' id k) (j : ℕ) (v : View K) (ne : j ≢ id) (at : get_elem? s.views j ≡ some v) where
   abbrev u : View K
   u = d.me.0
 
@@ -135,13 +135,13 @@ module _ {K B : Type 0} (hist : K → List Entry) (beg : K → B) (p : Layout K)
   at_after = ap (λ (z : List (View K)). get_elem? z j) d.views ∙ set_else s.views id j d.next.0 ne ∙ at
 
   plain : (Leads u.role → ⊥) → (k ≡ takes → ⊥) → Quiet s.words s'.words
-  plain un nt = subst (Quiet s.words) (sym d.words) (quiet hist beg p s r u id d.at d.step d.me.1 d.next k d.plays un nt)
+  plain un nt = subst (Quiet s.words) (sym d.words) (quiet hist came p s r u id d.at d.step d.me.1 d.next k d.plays un nt)
 
   pub longer : length r.log ≤ length r'.log
   longer =
       let a = r.common.places.head_is_length in
       let b = r'.common.places.head_is_length in
-      let c : get_or s.words head_index 0 ≤ get_or s'.words head_index 0 = subst (λ (z : List ℕ). get_or s.words head_index 0 ≤ get_or z head_index 0) (sym d.words) (head_up hist beg p s r u id d.at d.step d.me.1 d.next k d.plays) in
+      let c : get_or s.words head_index 0 ≤ get_or s'.words head_index 0 = subst (λ (z : List ℕ). get_or s.words head_index 0 ≤ get_or z head_index 0) (sym d.words) (head_up hist came p s r u id d.at d.step d.me.1 d.next k d.plays) in
       omega arith
 
   same_length : Quiet s.words s'.words → length r'.log ≡ length r.log
@@ -160,14 +160,14 @@ module _ {K B : Type 0} (hist : K → List Entry) (beg : K → B) (p : Layout K)
   closed_free is h = let q : closed ≡ free = sym is ∙ h in cc
 
   taken : k ≡ takes → (u.role ≡ Reader) × Freed (moment r) u.station u.opened (length u.seen)
-  taken is = taker hist beg p s r u id d.at d.step d.me.1 d.next k d.plays is
+  taken is = taker hist came p s r u id d.at d.step d.me.1 d.next k d.plays is
 
   -- a reader's cursor is a number
   counts : (w : View K) (i : ℕ) → get_elem? s.views i ≡ some w → w.role ≡ Reader → cursor s.words w.station < GONE
   counts w i here is =
-      let a = (role_of hist beg p s r w i here Reader is).cursor_is_length in
-      let b = few hist beg p s r w i here in
-      let c = short hist beg p s r w i here in
+      let a = (role_of hist came p s r w i here Reader is).cursor_is_length in
+      let b = few hist came p s r w i here in
+      let c = short hist came p s r w i here in
       omega arith
 
   -- of two readers that are next to lead one would be lower
@@ -176,14 +176,14 @@ module _ {K B : Type 0} (hist : K → List Entry) (beg : K → B) (p : Layout K)
       let f = taken t in
       let mine = counts v j at is in
       let its = counts u id d.at f.0 in
-      let apart = apart_from hist beg p s r j id v u at d.at ne (subst Live (sym f.0) tt) (subst Live (sym is) tt) in
+      let apart = apart_from hist came p s r j id v u at d.at ne (subst Live (sym f.0) tt) (subst Live (sym is) tt) in
       dite (dec_le v.station u.station)
       (λ le. let a = f.1.lower_gone v.station (dite (dec_le u.station v.station) (λ ge. absurd (apart (omega arith))) (λ lt. lt_of_not-le lt)) in omega arith)
       (λ gt. let a = q.lower_gone u.station (lt_of_not-le gt) in omega arith)
 
   pub next_on : v.role ≡ Reader → IsNextToLead (moment r) v → IsNextToLead (moment r') v
   next_on is q =
-      let w = plain (none_leads hist beg p s r u id d.at (free_held q.is_free) u.role refl) (not_both is q) in
+      let w = plain (none_leads hist came p s r u id d.at (free_held q.is_free) u.role refl) (not_both is q) in
       record {
         is_free = phase_on w ∙ q.is_free;
         all_seen = q.all_seen ∙ sym (same_length w);
@@ -192,13 +192,13 @@ module _ {K B : Type 0} (hist : K → List Entry) (beg : K → B) (p : Layout K)
 
   pub over_on : IsOver (moment r) v → IsOver (moment r') v
   over_on q =
-      let w = plain (none_leads hist beg p s r u id d.at (closed_held q.is_closed) u.role refl) (λ t. closed_free q.is_closed (taken t).1.is_free) in
+      let w = plain (none_leads hist came p s r u id d.at (closed_held q.is_closed) u.role refl) (λ t. closed_free q.is_closed (taken t).1.is_free) in
       record { is_closed = phase_on w ∙ q.is_closed; has_ended = q.has_ended }
 
   leads_holder : (w : View K) (i : ℕ) → get_elem? s.views i ≡ some w → (role : Role) → w.role ≡ role → Leads role → w.station ≡ r.holder
   leads_holder w i here Reader is l = absurd l
-  leads_holder w i here Lead is l = (role_of hist beg p s r w i here Lead is).is_holder
-  leads_holder w i here Opening is l = (role_of hist beg p s r w i here Opening is).is_holder
+  leads_holder w i here Lead is l = (role_of hist came p s r w i here Lead is).is_holder
+  leads_holder w i here Opening is l = (role_of hist came p s r w i here Opening is).is_holder
   leads_holder w i here Leaving is l = absurd l
   leads_holder w i here Moving is l = absurd l
   leads_holder w i here Gone is l = absurd l
@@ -215,9 +215,9 @@ module _ {K B : Type 0} (hist : K → List Entry) (beg : K → B) (p : Layout K)
 
   pub place_on : v.role ≡ Lead → HasPlace p.places (moment r) v → HasPlace p.places (moment r') v
   place_on is f =
-      let now : IsLeading p.stations p.places (moment r) v.station v.opened v.seen v.wrote = role_of hist beg p s r v j at Lead is in
-      let then : IsLeading p.stations p.places (moment r') v.station v.opened v.seen v.wrote = role_of hist beg p s' r' v j at_after Lead is in
-      let alone : Leads u.role → ⊥ = λ l. apart_from hist beg p s r j id v u at d.at ne (leads_live u.role l) (subst Live (sym is) tt) (now.is_holder ∙ sym (leads_holder u id d.at u.role refl l)) in
+      let now : IsLeading p.stations p.places (moment r) v.station v.opened v.seen v.wrote = role_of hist came p s r v j at Lead is in
+      let then : IsLeading p.stations p.places (moment r') v.station v.opened v.seen v.wrote = role_of hist came p s' r' v j at_after Lead is in
+      let alone : Leads u.role → ⊥ = λ l. apart_from hist came p s r j id v u at d.at ne (leads_live u.role l) (subst Live (sym is) tt) (now.is_holder ∙ sym (leads_holder u id d.at u.role refl l)) in
       let w = plain alone (λ t. free_held (taken t).1.is_free now.is_held) in
       let was : v.seen ≡ r.log = prefix_same v.seen r.log now.seen_is_log (r.each_seat j v at).seen_is_prefix in
       let same : v.seen ≡ r'.log = prefix_same v.seen r'.log then.seen_is_log (r'.each_seat j v at_after).seen_is_prefix in

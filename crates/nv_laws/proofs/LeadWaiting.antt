@@ -35,26 +35,26 @@ fits_not_full c log from fits full =
     let few = f.chunks_are_few in
     ⊎_elim (λ (a : from + c ≤ length log). absurd (omega arith)) (λ (a : pool_chunks c < chunks_from log from + 8). absurd (omega arith)) full
 
-module _ {K B : Type 0} (hist : K → List Entry) (beg : K → B) (p : Layout K) (j : ℕ) (old : View K) where
+module _ {K : Type 0} (hist : K → List Entry) (came : K → K → List ℕ → Type 0) (p : Layout K) (j : ℕ) (old : View K) where
   -- it is at its station still, and since then it looked at no other open station's cursor last that keeps it from its place
-  pub record SawPlace (s : State (Option K) (View K)) (r : Rule hist beg p s) (v : View K) : Type 0 where
+  pub record SawPlace (s : State (Option K) (View K)) (r : Rule hist came p s) (v : View K) : Type 0 where
     pub can : HasPlace p.places (moment r) v
     pub station : v.station ≡ old.station
     pub opened : v.opened ≡ old.opened
     pub seen : v.seen ≡ old.seen
     pub cursor : (v.cursor_looks ≡ old.cursor_looks) ⊎ (v.cursor_of ≢ v.station → v.cursor_of < v.opened → FitsAll p.places v.seen v.cursor_last)
 
-  no_wait : (s : State (Option K) (View K)) (r : Rule hist beg p s) (v : View K) → SawPlace s r v → LeadWaits p.places old v → ⊥
+  no_wait : (s : State (Option K) (View K)) (r : Rule hist came p s) (v : View K) → SawPlace s r v → LeadWaits p.places old v → ⊥
   no_wait s r v saw w = let up = w.looked in let inside = w.is_open in let opened = saw.opened in ⊎_elim
       (λ (e : v.cursor_looks ≡ old.cursor_looks). absurd (omega arith))
       (λ (f : v.cursor_of ≢ v.station → v.cursor_of < v.opened → FitsAll p.places v.seen v.cursor_last). fits_not_full p.places old.seen v.cursor_last
       (subst (λ (z : Log). FitsAll p.places z v.cursor_last) saw.seen (f (λ e. w.other (e ∙ saw.station)) (omega arith))) w.full)
       saw.cursor
 
-  leading : (s : State (Option K) (View K)) (r : Rule hist beg p s) (v : View K) → get_elem? s.views j ≡ some v → v.role ≡ Lead → IsLeading p.stations p.places (moment r) v.station v.opened v.seen v.wrote
-  leading s r v at is = role_of hist beg p s r v j at Lead is
+  leading : (s : State (Option K) (View K)) (r : Rule hist came p s) (v : View K) → get_elem? s.views j ≡ some v → v.role ≡ Lead → IsLeading p.stations p.places (moment r) v.station v.opened v.seen v.wrote
+  leading s r v at is = role_of hist came p s r v j at Lead is
 
-  whole : (s : State (Option K) (View K)) (r : Rule hist beg p s) (v : View K) → get_elem? s.views j ≡ some v → v.role ≡ Lead → v.seen ≡ r.log
+  whole : (s : State (Option K) (View K)) (r : Rule hist came p s) (v : View K) → get_elem? s.views j ≡ some v → v.role ≡ Lead → v.seen ≡ r.log
   whole s r v at is = prefix_same v.seen r.log (leading s r v at is).seen_is_log (r.each_seat j v at).seen_is_prefix
 
   -- a word of a place is no cursor
@@ -66,7 +66,7 @@ module _ {K B : Type 0} (hist : K → List Entry) (beg : K → B) (p : Layout K)
       omega arith
 
   -- a step of its own by which no cursor falls
-  module _ (s s' : State (Option K) (View K)) (r : Rule hist beg p s) (r' : Rule hist beg p s') (v w : View K) (up : (t : ℕ) → t < p.stations → cursor s.words t ≤ cursor s'.words t) (at : get_elem? s.views j ≡ some v) (at' : get_elem? s'.views j ≡ some w) (is : v.role ≡ Lead) (is' : w.role ≡ Lead)
+  module _ (s s' : State (Option K) (View K)) (r : Rule hist came p s) (r' : Rule hist came p s') (v w : View K) (up : (t : ℕ) → t < p.stations → cursor s.words t ≤ cursor s'.words t) (at : get_elem? s.views j ≡ some v) (at' : get_elem? s'.views j ≡ some w) (is : v.role ≡ Lead) (is' : w.role ≡ Lead)
       (station : w.station ≡ v.station) (opened : w.opened ≡ v.opened) (seen : w.seen ≡ v.seen) (saw : SawPlace s r v) where
     can_still : HasPlace p.places (moment r') w
     can_still =
@@ -76,7 +76,7 @@ module _ {K B : Type 0} (hist : K → List Entry) (beg : K → B) (p : Layout K)
         let b = then.opened_is in
         let was = whole s r v at is in
         let same = whole s' r' w at' is' in
-        let near = open_near hist beg p s r in
+        let near = open_near hist came p s r in
         λ u other inside. subst (λ (z : Log). FitsAll p.places z (cursor s'.words u)) (sym was ∙ sym seen ∙ same)
         (λ e small. fits_later p.places r.log e (cursor s.words u) (cursor s'.words u) (up u (omega arith)) (saw.can u (λ q. other (q ∙ sym station)) (omega arith) e small))
 
@@ -106,7 +106,7 @@ module _ {K B : Type 0} (hist : K → List Entry) (beg : K → B) (p : Layout K)
           saw.cursor;
     }
 
-  pub own_step : (s s' : State (Option K) (View K)) (r : Rule hist beg p s) (r' : Rule hist beg p s') (k : Kind) (d : Does hist beg p s s' j k) (v : View K) → d.me.0 ≡ v → get_elem? s.views j ≡ some v → get_elem? s'.views j ≡ some d.next.0 → gets_on k ≡ 0 → Finds s.words k → v.role ≡ Lead → SawPlace s r v
+  pub own_step : (s s' : State (Option K) (View K)) (r : Rule hist came p s) (r' : Rule hist came p s') (k : Kind) (d : Does hist came p s s' j k) (v : View K) → d.me.0 ≡ v → get_elem? s.views j ≡ some v → get_elem? s'.views j ≡ some d.next.0 → gets_on k ≡ 0 → Finds s.words k → v.role ≡ Lead → SawPlace s r v
       → (d.next.0.role ≡ Lead) × SawPlace s' r' d.next.0
   own_step s s' r r' (looks_head x) d v me at at' look finds is saw =
       let e : d.next.0 ≡ head_seen v x = ap (λ z. z.0) d.plays.0 ∙ ap (λ (z : View K). head_seen z x) me in
@@ -136,23 +136,23 @@ module _ {K B : Type 0} (hist : K → List Entry) (beg : K → B) (p : Layout K)
   own_step s s' r r' (hands x) d v me at at' look finds is saw = absurd (omega arith)
   own_step s s' r r' moves d v me at at' look finds is saw = absurd (omega arith)
 
-  along : (xs : List (ℕ × Kind)) (s s' : State (Option K) (View K)) (r : Rule hist beg p s) (v w : View K) → Trace hist beg p xs s s' → GetsOnByNone j xs → get_elem? s.views j ≡ some v → v.role ≡ Lead → SawPlace s r v → get_elem? s'.views j ≡ some w → LeadWaits p.places old w → ⊥
+  along : (xs : List (ℕ × Kind)) (s s' : State (Option K) (View K)) (r : Rule hist came p s) (v w : View K) → Trace hist came p xs s s' → GetsOnByNone j xs → get_elem? s.views j ≡ some v → v.role ≡ Lead → SawPlace s r v → get_elem? s'.views j ≡ some w → LeadWaits p.places old w → ⊥
   along [] s s' r v w t looks at is saw end waits =
       let same : v ≡ w = some-injective v w (sym at ∙ ap (λ (z : State (Option K) (View K)). get_elem? z.views j) (sym t) ∙ end) in
       no_wait s r v saw (subst (LeadWaits p.places old) (sym same) waits)
   along (x ∷ xs) s s' r v w t looks at is saw end waits = dite (ℕ_discrete j x.0)
       (λ e.
-      let d : Does hist beg p s t.0 j x.1 = subst (λ (z : ℕ). Does hist beg p s t.0 z x.1) (sym e) t.2 in
+      let d : Does hist came p s t.0 j x.1 = subst (λ (z : ℕ). Does hist came p s t.0 z x.1) (sym e) t.2 in
       let me : d.me.0 ≡ v = some-injective d.me.0 v (sym d.at ∙ at) in
       let at' : get_elem? t.0.views j ≡ some d.next.0 = ap (λ (z : List (View K)). get_elem? z j) d.views ∙ set_here s.views j d.next.0 (at_below s.views j v at) in
       let q = own_step s t.0 r t.1 x.1 d v me at at' (looks.0 e) t.3 is saw in
       along xs t.0 s' t.1 d.next.0 w t.4 looks.1 at' q.0 q.1 end waits)
-      (λ ne. along xs t.0 s' t.1 v w t.4 looks.1 (at_after hist beg p s t.0 r t.1 x.0 x.1 t.2 j v ne at) is
-      record { can = place_on hist beg p s t.0 r t.1 x.0 x.1 t.2 j v ne at is saw.can; station = saw.station; opened = saw.opened; seen = saw.seen; cursor = saw.cursor } end waits)
+      (λ ne. along xs t.0 s' t.1 v w t.4 looks.1 (at_after hist came p s t.0 r t.1 x.0 x.1 t.2 j v ne at) is
+      record { can = place_on hist came p s t.0 r t.1 x.0 x.1 t.2 j v ne at is saw.can; station = saw.station; opened = saw.opened; seen = saw.seen; cursor = saw.cursor } end waits)
 
-pub place_now : {K B : Type 0} (hist : K → List Entry) (beg : K → B) (p : Layout K) (j : ℕ) (s : State (Option K) (View K)) (r : Rule hist beg p s) (v : View K) → HasPlace p.places (moment r) v → SawPlace hist beg p j v s r v
-place_now hist beg p j s r v can = record { can = can; station = refl; opened = refl; seen = refl; cursor = inl refl }
+pub place_now : {K : Type 0} (hist : K → List Entry) (came : K → K → List ℕ → Type 0) (p : Layout K) (j : ℕ) (s : State (Option K) (View K)) (r : Rule hist came p s) (v : View K) → HasPlace p.places (moment r) v → SawPlace hist came p j v s r v
+place_now hist came p j s r v can = record { can = can; station = refl; opened = refl; seen = refl; cursor = inl refl }
 
-pub no_lead_waits : {K B : Type 0} (hist : K → List Entry) (beg : K → B) (p : Layout K) (xs : List (ℕ × Kind)) (s s' : State (Option K) (View K)) (r : Rule hist beg p s) (j : ℕ) (v w : View K) → Trace hist beg p xs s s' → GetsOnByNone j xs
+pub no_lead_waits : {K : Type 0} (hist : K → List Entry) (came : K → K → List ℕ → Type 0) (p : Layout K) (xs : List (ℕ × Kind)) (s s' : State (Option K) (View K)) (r : Rule hist came p s) (j : ℕ) (v w : View K) → Trace hist came p xs s s' → GetsOnByNone j xs
     → get_elem? s.views j ≡ some v → v.role ≡ Lead → CanGetOn p.places (moment r) v Lead → get_elem? s'.views j ≡ some w → LeadWaits p.places v w → ⊥
-no_lead_waits hist beg p xs s s' r j v w t looks at is can end waits = along hist beg p j v xs s s' r v w t looks at is (place_now hist beg p j s r v can) end waits
+no_lead_waits hist came p xs s s' r j v w t looks at is can end waits = along hist came p j v xs s s' r v w t looks at is (place_now hist came p j s r v can) end waits

@@ -30,7 +30,7 @@ full_unread c log seen pos full = dite (dec_le (length log) seen)
     full))
     (λ less. lt_of_not-le less)
 
-module _ {K B : Type 0} (hist : K → List Entry) (beg : K → B) (p : Layout K) (s : State (Option K) (View K)) (r : Rule hist beg p s) where
+module _ {K : Type 0} (hist : K → List Entry) (came : K → K → List ℕ → Type 0) (p : Layout K) (s : State (Option K) (View K)) (r : Rule hist came p s) where
   abbrev m : Moment
   m = moment r
 

@@ -146,9 +146,9 @@ by_probe : {T : Type 0} (l x : ℕ) (v : View T) (b : Bool) → (cond b (with_no
 by_probe l x v true = refl
 by_probe l x v false = refl
 
-module _ {K B : Type 0} (hist : K → List Entry) (beg : K → B) (p : Layout K) (j : ℕ) (old : View K) where
+module _ {K : Type 0} (hist : K → List Entry) (came : K → K → List ℕ → Type 0) (p : Layout K) (j : ℕ) (old : View K) where
   -- a step of the seat itself by which it doesn't get on
-  pub own_step : (s s' : State (Option K) (View K)) (r : Rule hist beg p s) (r' : Rule hist beg p s') (k : Kind) (d : Does hist beg p s s' j k) (v : View K) → d.me.0 ≡ v → gets_on k ≡ 0 → Finds s.words k → v.role ≡ Reader → Saw old (moment r) v
+  pub own_step : (s s' : State (Option K) (View K)) (r : Rule hist came p s) (r' : Rule hist came p s') (k : Kind) (d : Does hist came p s s' j k) (v : View K) → d.me.0 ≡ v → gets_on k ≡ 0 → Finds s.words k → v.role ≡ Reader → Saw old (moment r) v
       → (d.next.0.role ≡ Reader) × Saw old (moment r') d.next.0
   own_step s s' r r' (looks_head x) d v me look finds is saw =
       let e : d.next.0 ≡ head_seen v x = ap (λ z. z.0) d.plays.0 ∙ ap (λ (z : View K). head_seen z x) me in
@@ -200,27 +200,27 @@ module _ {K B : Type 0} (hist : K → List Entry) (beg : K → B) (p : Layout K)
   own_step s s' r r' moves d v me look finds is saw = absurd (omega arith)
 
   -- a step of another seat
-  other_step : (s s' : State (Option K) (View K)) (r : Rule hist beg p s) (r' : Rule hist beg p s') (id : ℕ) (k : Kind) (d : Does hist beg p s s' id k) (v : View K) → j ≢ id → get_elem? s.views j ≡ some v → v.role ≡ Reader → Saw old (moment r) v → Saw old (moment r') v
+  other_step : (s s' : State (Option K) (View K)) (r : Rule hist came p s) (r' : Rule hist came p s') (id : ℕ) (k : Kind) (d : Does hist came p s s' id k) (v : View K) → j ≢ id → get_elem? s.views j ≡ some v → v.role ≡ Reader → Saw old (moment r) v → Saw old (moment r') v
   other_step s s' r r' id k d v ne at is saw = ⊎_elim
-      (λ (a : SawEvent old (moment r) v). inl record { can = (let c = a.can in let g = longer hist beg p s s' r r' id k d j v ne at in omega arith); head = a.head })
+      (λ (a : SawEvent old (moment r) v). inl record { can = (let c = a.can in let g = longer hist came p s s' r r' id k d j v ne at in omega arith); head = a.head })
       (λ (b : SawFree old (moment r) v ⊎ SawClosed old (moment r) v). inr (⊎_elim
-      (λ (a : SawFree old (moment r) v). inl record { can = next_on hist beg p s s' r r' id k d j v ne at is a.can; owner = a.owner; lower = a.lower })
-      (λ (a : SawClosed old (moment r) v). inr record { can = over_on hist beg p s s' r r' id k d j v ne at a.can; owner = a.owner })
+      (λ (a : SawFree old (moment r) v). inl record { can = next_on hist came p s s' r r' id k d j v ne at is a.can; owner = a.owner; lower = a.lower })
+      (λ (a : SawClosed old (moment r) v). inr record { can = over_on hist came p s s' r r' id k d j v ne at a.can; owner = a.owner })
       b))
       saw
 
-  along : (xs : List (ℕ × Kind)) (s s' : State (Option K) (View K)) (r : Rule hist beg p s) (v w : View K) → Trace hist beg p xs s s' → GetsOnByNone j xs → get_elem? s.views j ≡ some v → v.role ≡ Reader → Saw old (moment r) v → get_elem? s'.views j ≡ some w → Waits old w → ⊥
+  along : (xs : List (ℕ × Kind)) (s s' : State (Option K) (View K)) (r : Rule hist came p s) (v w : View K) → Trace hist came p xs s s' → GetsOnByNone j xs → get_elem? s.views j ≡ some v → v.role ≡ Reader → Saw old (moment r) v → get_elem? s'.views j ≡ some w → Waits old w → ⊥
   along [] s s' r v w t looks at is saw end waits =
       let same : v ≡ w = some-injective v w (sym at ∙ ap (λ (z : State (Option K) (View K)). get_elem? z.views j) (sym t) ∙ end) in
       no_wait old (moment r) v saw (subst (Waits old) (sym same) waits)
   along (x ∷ xs) s s' r v w t looks at is saw end waits = dite (ℕ_discrete j x.0)
       (λ e.
-      let d : Does hist beg p s t.0 j x.1 = subst (λ (z : ℕ). Does hist beg p s t.0 z x.1) (sym e) t.2 in
+      let d : Does hist came p s t.0 j x.1 = subst (λ (z : ℕ). Does hist came p s t.0 z x.1) (sym e) t.2 in
       let me : d.me.0 ≡ v = some-injective d.me.0 v (sym d.at ∙ at) in
       let q = own_step s t.0 r t.1 x.1 d v me (looks.0 e) t.3 is saw in
       let at' : get_elem? t.0.views j ≡ some d.next.0 = ap (λ (z : List (View K)). get_elem? z j) d.views ∙ set_here s.views j d.next.0 (at_below s.views j v at) in
       along xs t.0 s' t.1 d.next.0 w t.4 looks.1 at' q.0 q.1 end waits)
-      (λ ne. along xs t.0 s' t.1 v w t.4 looks.1 (at_after hist beg p s t.0 r t.1 x.0 x.1 t.2 j v ne at) is (other_step s t.0 r t.1 x.0 x.1 t.2 v ne at is saw) end waits)
+      (λ ne. along xs t.0 s' t.1 v w t.4 looks.1 (at_after hist came p s t.0 r t.1 x.0 x.1 t.2 j v ne at) is (other_step s t.0 r t.1 x.0 x.1 t.2 v ne at is saw) end waits)
 
 pub saw_now : {T : Type 0} (c : ℕ) (m : Moment) (v : View T) → CanGetOn c m v Reader → Saw v m v
 saw_now c m v can = ⊎_elim
@@ -234,7 +234,7 @@ saw_now c m v can = ⊎_elim
 pub saw_can : {T : Type 0} (c : ℕ) (m : Moment) (old v : View T) → Saw old m v → CanGetOn c m v Reader
 saw_can c m old v saw = ⊎_elim (λ (a : SawEvent old m v). inl a.can) (λ (b : SawFree old m v ⊎ SawClosed old m v). inr (⊎_elim (λ (a : SawFree old m v). inl a.can) (λ (a : SawClosed old m v). inr a.can) b)) saw
 
-pub no_reader_waits : {K B : Type 0} (hist : K → List Entry) (beg : K → B) (p : Layout K) (xs : List (ℕ × Kind)) (s s' : State (Option K) (View K)) (r : Rule hist beg p s) (j : ℕ) (v w : View K) → Trace hist beg p xs s s' → GetsOnByNone j xs
+pub no_reader_waits : {K : Type 0} (hist : K → List Entry) (came : K → K → List ℕ → Type 0) (p : Layout K) (xs : List (ℕ × Kind)) (s s' : State (Option K) (View K)) (r : Rule hist came p s) (j : ℕ) (v w : View K) → Trace hist came p xs s s' → GetsOnByNone j xs
     → get_elem? s.views j ≡ some v → v.role ≡ Reader → CanGetOn p.places (moment r) v Reader → get_elem? s'.views j ≡ some w → Waits v w → ⊥
-no_reader_waits hist beg p xs s s' r j v w t looks at is can end waits =
-    along hist beg p j v xs s s' r v w t looks at is (saw_now p.places (moment r) v can) end waits
+no_reader_waits hist came p xs s s' r j v w t looks at is can end waits =
+    along hist came p j v xs s s' r v w t looks at is (saw_now p.places (moment r) v can) end waits

@@ -26,19 +26,19 @@ can_stays c m v Moving k = tt
 can_stays c m v Gone k = absurd k
 can_stays c m v Spent k = absurd k
 
-module _ {K B : Type 0} (hist : K → List Entry) (beg : K → B) (p : Layout K) (s : State (Option K) (View K)) (r : Rule hist beg p s) (j : ℕ) (v : View K) (at : get_elem? s.views j ≡ some v) where
-  by_role : (role : Role) → v.role ≡ role → CanGetOn p.places (moment r) v role → (xs : List (ℕ × Kind)) (last : State (Option K) (View K)) (w : View K) → Trace hist beg p xs s last → GetsOnByNone j xs → get_elem? last.views j ≡ some w → HasToWait p.places v w role → ⊥
-  by_role Reader is can xs last w t on end waits = no_reader_waits hist beg p xs s last r j v w t on at is can end waits
-  by_role Lead is can xs last w t on end waits = no_lead_waits hist beg p xs s last r j v w t on at is can end waits
+module _ {K : Type 0} (hist : K → List Entry) (came : K → K → List ℕ → Type 0) (p : Layout K) (s : State (Option K) (View K)) (r : Rule hist came p s) (j : ℕ) (v : View K) (at : get_elem? s.views j ≡ some v) where
+  by_role : (role : Role) → v.role ≡ role → CanGetOn p.places (moment r) v role → (xs : List (ℕ × Kind)) (last : State (Option K) (View K)) (w : View K) → Trace hist came p xs s last → GetsOnByNone j xs → get_elem? last.views j ≡ some w → HasToWait p.places v w role → ⊥
+  by_role Reader is can xs last w t on end waits = no_reader_waits hist came p xs s last r j v w t on at is can end waits
+  by_role Lead is can xs last w t on end waits = no_lead_waits hist came p xs s last r j v w t on at is can end waits
   by_role Opening is can xs last w t on end waits = waits
   by_role Leaving is can xs last w t on end waits = waits
   by_role Moving is can xs last w t on end waits = waits
   by_role Gone is can xs last w t on end waits = can
   by_role Spent is can xs last w t on end waits = can
 
-  pub need_not : CanGetOn p.places (moment r) v v.role → NeedNotWait hist beg p s j v
+  pub need_not : CanGetOn p.places (moment r) v v.role → NeedNotWait hist came p s j v
   need_not can = record { turns = by_role v.role refl can; stays = can_stays p.places (moment r) v v.role can }
 
-pub some_need_not : {K B : Type 0} (hist : K → List Entry) (beg : K → B) (p : Layout K) (s : State (Option K) (View K)) (r : Rule hist beg p s) → AllSeated p s.views → SomeStays s.views
-    → (j : ℕ) × (v : View K) × (get_elem? s.views j ≡ some v) × NeedNotWait hist beg p s j v
-some_need_not hist beg p s r all some_stays = let o = not_stuck hist beg p s r all some_stays in (o.0, o.1, o.2, need_not hist beg p s r o.0 o.1 o.2 o.3)
+pub some_need_not : {K : Type 0} (hist : K → List Entry) (came : K → K → List ℕ → Type 0) (p : Layout K) (s : State (Option K) (View K)) (r : Rule hist came p s) → AllSeated p s.views → SomeStays s.views
+    → (j : ℕ) × (v : View K) × (get_elem? s.views j ≡ some v) × NeedNotWait hist came p s j v
+some_need_not hist came p s r all some_stays = let o = not_stuck hist came p s r all some_stays in (o.0, o.1, o.2, need_not hist came p s r o.0 o.1 o.2 o.3)

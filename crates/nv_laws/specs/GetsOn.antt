@@ -14,7 +14,7 @@ use Rattle.nv_room.specs.Room.{cursor, Moment, as_of, Live, Rule}
 use Rattle.nv_room.specs.Steps.{TellsEnd}
 
 -- the state of a room that meets the rule
-abbrev pub moment : {K B : Type 0} {hist : K → List Entry} {beg : K → B} {p : Layout K} {s : State (Option K) (View K)} → Rule hist beg p s → Moment
+abbrev pub moment : {K : Type 0} {hist : K → List Entry} {came : K → K → List ℕ → Type 0} {p : Layout K} {s : State (Option K) (View K)} → Rule hist came p s → Moment
 moment {s = s} r = as_of s.words r.log r.phase r.holder r.spans r.seating r.ready
 
 -- an event is published that the seat has still to see

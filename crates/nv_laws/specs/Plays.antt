@@ -17,7 +17,7 @@ use Rattle.nv_room.specs.Steps.{looked_head, looked_owner, looked_cursor, spare,
 use Rattle.nv_room.specs.Kinds.{Kind, looks_head, looks_owner, looks_cursor, looks_spare, probes, reads, writes, sees, publishes, takes, gives_up, leaves, opens, hands, moves}
 
 -- what the room asks of the seat before such a step, and what its play tells of the seat after it
-module _ {K B : Type 0} (hist : K → List Entry) (beg : K → B) (st : Step (Option K)) (m m' : Me (Option K) (View K)) where
+module _ {K : Type 0} (hist : K → List Entry) (came : K → K → List ℕ → Type 0) (st : Step (Option K)) (m m' : Me (Option K) (View K)) where
   abbrev pub Plays : Kind → Type 0
   Plays (looks_head r) = looked_head st m r m'
   Plays (looks_owner r) = (m.0.role ≡ Reader) × looked_owner st m r m'
@@ -28,7 +28,7 @@ module _ {K B : Type 0} (hist : K → List Entry) (beg : K → B) (st : Step (Op
   Plays (writes r) = (m.0.role ≡ Lead) × wrote_word st m r m'
   Plays sees = (m.0.role ≡ Reader) × goes_ahead st m (length m.0.seen + 1) m'
   Plays publishes = (m.0.role ≡ Lead) × (length m.0.seen < MOST_EVENTS) × published st m (length m.0.seen + 1) m'
-  Plays takes = (m.0.role ≡ Reader) × (m.0.freed ≡ Some (length m.0.seen)) × took hist beg st m (owner_word held m.0.station m.0.opened (length m.0.seen)) m'
+  Plays takes = (m.0.role ≡ Reader) × (m.0.freed ≡ Some (length m.0.seen)) × took hist came st m (owner_word held m.0.station m.0.opened (length m.0.seen)) m'
   Plays (gives_up r) = (m.0.role ≡ Lead) × gave_up st m r m'
   Plays leaves = ((m.0.role ≡ Reader) ⊎ (m.0.role ≡ Leaving)) × left st m GONE m'
   Plays opens = (m.0.role ≡ Lead) × opened_next st m (length m.0.seen) m'
@@ -55,19 +55,19 @@ module _ {T : Type 0} (p : Layout T) (v : View T) (ws : List ℕ) where
   written moves = slice_set ws (cursor_index v.former) GONE
 
 -- the seat id takes a step of this kind, and the other seats stay as they are
-pub record Does {K B : Type 0} (hist : K → List Entry) (beg : K → B) (p : Layout K) (s s' : State (Option K) (View K)) (id : ℕ) (kind : Kind) : Type 0 where
+pub record Does {K : Type 0} (hist : K → List Entry) (came : K → K → List ℕ → Type 0) (p : Layout K) (s s' : State (Option K) (View K)) (id : ℕ) (kind : Kind) : Type 0 where
   pub step : Step (Option K)
   pub me : Me (Option K) (View K)
   pub next : Me (Option K) (View K)
   pub at : get_elem? s.views id ≡ some me.0
-  pub plays : Plays hist beg step me next kind
+  pub plays : Plays hist came step me next kind
   pub words : s'.words ≡ written p me.0 s.words kind
   pub views : s'.views ≡ slice_set s.views id next.0
 
 -- the seat id, with this view and these slots, may take such a step, to a state that meets the rule
-abbrev pub Goes : {K B : Type 0} → (K → List Entry) → (K → B) → Layout K → State (Option K) (View K) → ℕ → Me (Option K) (View K) → Kind → Type 0
-Goes {K} hist beg p s id me k = (u : State (Option K) (View K)) × Rule hist beg p u × ((d : Does hist beg p s u id k) × (d.me.0 ≡ me.0))
+abbrev pub Goes : {K : Type 0} → (K → List Entry) → (K → K → List ℕ → Type 0) → Layout K → State (Option K) (View K) → ℕ → Me (Option K) (View K) → Kind → Type 0
+Goes {K} hist came p s id me k = (u : State (Option K) (View K)) × Rule hist came p u × ((d : Does hist came p s u id k) × (d.me.0 ≡ me.0))
 
 -- it may in each state that meets the rule and has it so; what it finds there is the state's
-abbrev pub MayDo : {K B : Type 0} → (K → List Entry) → (K → B) → Layout K → ℕ → Me (Option K) (View K) → (List ℕ → Kind) → Type 0
-MayDo {K} hist beg p id me kind = (s : State (Option K) (View K)) → Rule hist beg p s → get_elem? s.views id ≡ some me.0 → ((i : ℕ) → slice_index_or s.words i 0 < 18446744073709551616) → Goes hist beg p s id me (kind s.words)
+abbrev pub MayDo : {K : Type 0} → (K → List Entry) → (K → K → List ℕ → Type 0) → Layout K → ℕ → Me (Option K) (View K) → (List ℕ → Kind) → Type 0
+MayDo {K} hist came p id me kind = (s : State (Option K) (View K)) → Rule hist came p s → get_elem? s.views id ≡ some me.0 → ((i : ℕ) → slice_index_or s.words i 0 < 18446744073709551616) → Goes hist came p s id me (kind s.words)

@@ -26,14 +26,14 @@ turns_of left zero = 0
 turns_of left (suc j) = left j + turns_of left j
 
 -- The room's state at each moment, and how many turns of the worker with the seat j may still get on, as its last turn until then left it.
-module _ {K B : Type 0} (hist : K → List Entry) (beg : K → B) (p : Layout K) (state : ℕ → State (Option K) (View K)) (left : ℕ → ℕ → ℕ) where
+module _ {K : Type 0} (hist : K → List Entry) (came : K → K → List ℕ → Type 0) (p : Layout K) (state : ℕ → State (Option K) (View K)) (left : ℕ → ℕ → ℕ) where
   -- between two moments one seat takes a step, or the room stays as it is
   abbrev pub Passes : ℕ → Type 0
-  Passes i = (state (suc i) ≡ state i) ⊎ (Rule hist beg p (state (suc i)) × ((id : ℕ) × (kind : Kind) × Does hist beg p (state i) (state (suc i)) id kind × Finds (state i).words kind))
+  Passes i = (state (suc i) ≡ state i) ⊎ (Rule hist came p (state (suc i)) × ((id : ℕ) × (kind : Kind) × Does hist came p (state i) (state (suc i)) id kind × Finds (state i).words kind))
 
   -- it begins with a seat for each version, and no turn leaves more turns than it found
   pub record IsRun : Type 0 where
-    pub begins : Rule hist beg p (state 0)
+    pub begins : Rule hist came p (state 0)
     pub seated : AllSeated p (state 0).views
     pub passes : (i : ℕ) → Passes i
     pub falls : (i j : ℕ) → left (suc i) j ≤ left i j
@@ -61,7 +61,7 @@ module _ {K B : Type 0} (hist : K → List Entry) (beg : K → B) (p : Layout K)
 
   -- there is no moment after which none of the seats that can get on then has a turn
   abbrev pub IsFair : Type 0
-  IsFair = (a : ℕ) (r : Rule hist beg p (state a)) → SomeStays (state a).views
+  IsFair = (a : ℕ) (r : Rule hist came p (state a)) → SomeStays (state a).views
       → (b : ℕ) × (j : ℕ) × (v : View K) × (a ≤ b) × (get_elem? (state a).views j ≡ some v) × CanGetOn p.places (moment r) v v.role × HasTurn a b j
 
   -- the steps with which the seats may still get on, and the turns of their workers

@@ -37,10 +37,10 @@ Finds ws (hands r) = Unit {0}
 Finds ws moves = Unit {0}
 
 -- steps of these seats and kinds, each to a state that meets the rule
-module _ {K B : Type 0} (hist : K → List Entry) (beg : K → B) (p : Layout K) where
+module _ {K : Type 0} (hist : K → List Entry) (came : K → K → List ℕ → Type 0) (p : Layout K) where
   abbrev pub Trace : List (ℕ × Kind) → State (Option K) (View K) → State (Option K) (View K) → Type 0
   Trace [] s s' = s' ≡ s
-  Trace (x ∷ xs) s s' = (u : State (Option K) (View K)) × Rule hist beg p u × Does hist beg p s u x.0 x.1 × Finds s.words x.1 × Trace xs u s'
+  Trace (x ∷ xs) s s' = (u : State (Option K) (View K)) × Rule hist came p u × Does hist came p s u x.0 x.1 × Finds s.words x.1 × Trace xs u s'
 
 -- the seat j doesn't get on by them
 abbrev pub GetsOnByNone : ℕ → List (ℕ × Kind) → Type 0
@@ -73,7 +73,7 @@ module _ {T : Type 0} (c : ℕ) (old new : View T) where
   HasToWait Spent = ⊥
 
 -- whatever steps the others take, the seat j with this view doesn't wait while it doesn't get on; and it has still to leave
-module _ {K B : Type 0} (hist : K → List Entry) (beg : K → B) (p : Layout K) (s : State (Option K) (View K)) (j : ℕ) (v : View K) where
+module _ {K : Type 0} (hist : K → List Entry) (came : K → K → List ℕ → Type 0) (p : Layout K) (s : State (Option K) (View K)) (j : ℕ) (v : View K) where
   pub record NeedNotWait : Type 0 where
-    pub turns : (xs : List (ℕ × Kind)) (last : State (Option K) (View K)) (w : View K) → Trace hist beg p xs s last → GetsOnByNone j xs → get_elem? last.views j ≡ some w → ¬ HasToWait p.places v w v.role
+    pub turns : (xs : List (ℕ × Kind)) (last : State (Option K) (View K)) (w : View K) → Trace hist came p xs s last → GetsOnByNone j xs → get_elem? last.views j ≡ some w → ¬ HasToWait p.places v w v.role
     pub stays : Stays v.role

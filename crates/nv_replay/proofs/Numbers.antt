@@ -7,7 +7,8 @@ use Rattle.std.proofs.lemmas.Bool.Decides.{nat_tests}
 use Rattle.nv_replay.specs.declared.fate.Fate.{Fate}
 use Rattle.nv_replay.specs.Lead.{Leader}
 use Rattle.nv_replay.specs.Sequence.{is_going}
-use Rattle.nv_replay.specs.Hands.{has, count_above, is_handed}
+use Rattle.nv_calls.specs.Hands.{has}
+use Rattle.nv_replay.specs.Hands.{count_above, is_handed}
 use Rattle.nv_replay.specs.Monitor.{numbers}
 
 one_below : (k n m : ℕ) → n ≤ m → (cond (nat_le k m) 0 1) ≤ (cond (nat_le k n) 0 1)

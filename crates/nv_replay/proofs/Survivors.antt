@@ -11,7 +11,8 @@ use Rattle.nv_replay.specs.Settling.{stage}
 use Rattle.nv_replay.specs.Follow.{Follower, Judge, follow, fresh, IsInStep, is_exited}
 use Rattle.nv_replay.specs.Lead.{Leader, lead, next_call, is_memory}
 use Rattle.nv_replay.specs.Tracks.{track, track_next}
-use Rattle.nv_replay.specs.Hands.{has, is_handed, lead_to_hand}
+use Rattle.nv_calls.specs.Hands.{has}
+use Rattle.nv_replay.specs.Hands.{is_handed, lead_to_hand}
 use Rattle.nv_replay.specs.Monitor.{Part, Run, part, begun, led_line, after_lead, tracked_by, leads_on, turn, told_standing, lines_of, sequence}
 use Rattle.nv_replay.proofs.Settled.{Reaches, reach_here}
 use Rattle.nv_replay.proofs.Wholly.{lead_is}

@@ -1,14 +1,11 @@
 -- A version leads until it ends, or until it has made the log as long as one of these numbers: then it gives up the lead.
-use Rattle.std.specs.Prelude.{ℕ, ◌+◌, Bool, true, false, ◌||◌, ◌&&◌, not, nat_le, ◌==◌, List, [], ◌∷◌, length, Option, if◌then◌else◌}
+use Rattle.std.specs.Prelude.{ℕ, ◌+◌, Bool, true, false, ◌&&◌, not, nat_le, List, [], ◌∷◌, length, Option, if◌then◌else◌}
+use Rattle.nv_calls.specs.Hands.{has}
 use Rattle.nv_calls.specs.Logs.{Start}
 use Rattle.nv_threads.specs.Behaviours.{Behaviour}
 use Rattle.nv_replay.specs.Settling.{stage}
 use Rattle.nv_replay.specs.Lead.{Leader, next_call}
 use Rattle.nv_replay.specs.Sequence.{is_going}
-
-abbrev pub has : List ℕ → ℕ → Bool
-has [] n = false
-has (k ∷ ks) n = (k == n) || has ks n
 
 -- whether a leader goes on at this length of the log
 abbrev pub stays : Bool → List ℕ → ℕ → Bool

@@ -35,6 +35,7 @@ kept_answers X o = record {
   start = λ setup k. tt;
   known = λ setup k. start_of_arrivals setup k.guests.came;
   stands = λ k. StandsKept o.did o.is_over k.guests;
+  handed = λ k setup log lengths. Unit {0};
   keeps_all = true;
   is_ready = λ k c. Unit {0};
 }
@@ -49,6 +50,7 @@ live_answers X o = record {
   start = λ setup g. tt;
   known = λ setup g. start_of_arrivals setup g.came;
   stands = StandsAt o.did o.is_over;
+  handed = λ g setup log lengths. Unit {0};
   keeps_all = false;
   is_ready = λ g c. Unit {0};
 }

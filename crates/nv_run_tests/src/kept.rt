@@ -36,7 +36,7 @@ pub fn make_kept<O: Outside + Telling + Send>(
 }
 
 impl<O: Outside + Telling + Send> Answers for Kept<O> {
-    ghost use Rattle.std.specs.Prelude.{true};
+    ghost use Rattle.std.specs.Prelude.{◌≡◌, [], true};
     ghost use Rattle.nv_kernel.specs.Codes.{setup_code};
     ghost use Rattle.nv_arriving.specs.Arriving.{start_of_arrivals};
     ghost use Rattle.nv_arriving.specs.Beginnings.{begun_code};
@@ -52,6 +52,9 @@ impl<O: Outside + Telling + Send> Answers for Kept<O> {
     ghost known = { λ setup k. start_of_arrivals setup k.guests.came };
 
     ghost stands = { λ k. StandsKept O.did O.is_over k.guests };
+
+    // It is asked for no hand-over.
+    ghost handed = { λ _ _ _ lengths. lengths ≡ [] };
 
     ghost keeps_all = { true };
 

@@ -119,6 +119,9 @@ impl<O: Outside> SyscallKernel for LearningKernel<O> {
 
     ghost known = { λ k. from_given (given_by k.log k.kept) };
 
+    // No operator's word comes.
+    ghost handed = { λ _ lengths. lengths ≡ [] };
+
     ghost is_ready = { CanServe };
 
     fn reserve(&mut self, call: &Call) -> Result<(), AllocError> {

@@ -1,5 +1,5 @@
 // A kernel over another one, with the reservations that are refused.
-ghost use Rattle.std.specs.Prelude.{◌≡◌, IsTrue, IsErr, OnOk};
+ghost use Rattle.std.specs.Prelude.{◌≡◌, ℕ, List, IsTrue, IsErr, OnOk};
 ghost use Rattle.nv_calls.specs.Calls.{request};
 ghost use Rattle.nv_calls.specs.Learning.{GoesOn};
 ghost use Rattle.nv_calls.specs.Shapes.{IsShaped};
@@ -66,6 +66,8 @@ impl<K: SyscallKernel> SyscallKernel for RefusingKernel<K> {
 
     ghost known = { λ k. K.known k.inner };
 
+    ghost handed = { λ k. K.handed k.inner };
+
     ghost is_ready = { λ k. K.is_ready k.inner };
 
     fn reserve(&mut self, call: &Call) -> Result<(), AllocError>
@@ -73,6 +75,7 @@ impl<K: SyscallKernel> SyscallKernel for RefusingKernel<K> {
         ensures log { K.log (inner_of self.new) ≡ K.log (inner_of self.old) }
         ensures start { K.start (inner_of self.new) ≡ K.start (inner_of self.old) }
         ensures known { GoesOn (K.log (inner_of self.old)) (K.known (inner_of self.old)) (K.known (inner_of self.new)) }
+        ensures handed { (lengths : List ℕ) → K.handed (inner_of self.old) lengths → K.handed (inner_of self.new) lengths }
         ensures ready { OnOk result (K.is_ready (inner_of self.new) (request call.now)) }
         ensures refused { IsTrue (is_refused (refused_of self.old) (asked_of self.old)) → IsErr result }
         ensures numbers { refused_of self.new ≡ refused_of self.old }

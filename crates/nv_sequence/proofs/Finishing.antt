@@ -11,7 +11,8 @@ use Rattle.nv_replay.specs.Follow.{Follower, Judge, fresh, follow, IsInStep, is_
 use Rattle.nv_replay.specs.Lead.{cut_of}
 use Rattle.nv_replay.specs.Tracks.{track_next}
 use Rattle.nv_replay.specs.Spans.{EndBy}
-use Rattle.nv_replay.specs.Hands.{has, count_above, is_handed}
+use Rattle.nv_calls.specs.Hands.{has}
+use Rattle.nv_replay.specs.Hands.{count_above, is_handed}
 use Rattle.nv_replay.specs.Sequence.{is_going, cuts_of}
 use Rattle.nv_replay.specs.LettingGo.{is_let_go, stop_of}
 use Rattle.nv_replay.specs.Monitor.{Run, part, numbers, begun, turn, tracked_by, told_standing, lines_of, sequence}

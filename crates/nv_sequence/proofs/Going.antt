@@ -10,7 +10,8 @@ use Rattle.nv_replay.specs.declared.fate.Fate.{Fate}
 use Rattle.nv_replay.specs.declared.fate.Fate.TheVariants as fates
 use Rattle.nv_replay.specs.Follow.{Follower, Judge, follow, IsInStep, is_exited}
 use Rattle.nv_replay.specs.Lead.{Leader, is_cut, cut_of}
-use Rattle.nv_replay.specs.Hands.{has, is_handed}
+use Rattle.nv_calls.specs.Hands.{has}
+use Rattle.nv_replay.specs.Hands.{is_handed}
 use Rattle.nv_replay.specs.Sequence.{is_going}
 use Rattle.nv_replay.specs.Monitor.{Run, begun, led_line, after_lead, with_span, tracked_by, leads_on, turn}
 use Rattle.nv_replay.specs.Version.{Running, leader_of, standing_of}

@@ -12,7 +12,8 @@ use Rattle.nv_replay.specs.Sequence.{is_going}
 use Rattle.nv_replay.specs.Version.{Running, IsLiveLeader, leader_of}
 use Rattle.nv_replay.proofs.Settled.{Reaches, reach_here, reach_on}
 use Rattle.nv_replay.proofs.Falling.{lead_size, next_call_falls}
-use Rattle.nv_replay.specs.Hands.{has, stays, is_handed, next_or_hand}
+use Rattle.nv_calls.specs.Hands.{has}
+use Rattle.nv_replay.specs.Hands.{stays, is_handed, next_or_hand}
 use Rattle.nv_replay.proofs.Extending.{next_grows}
 use Rattle.nv_replay.specs.Turns.{Suits, LedOn, TookTurn}
 use Rattle.nv_replay.proofs.Wholly.{suits_end, suits_now}

@@ -5,10 +5,12 @@ use Rattle.std.proofs.lemmas.Bool.Decides.{nat_tests}
 use mathlib.Core.Option.{some, some-injective, some-ne-none}
 use lib.ListN.{get_elem?}
 use Rattle.nv_room.specs.declared.view.Span.{Span}
+use Rattle.nv_calls.specs.Hands.{has}
+use Rattle.nv_room.specs.Planned.{asked_at, asked_in}
 use Rattle.nv_room.specs.Spans.{Tiles, of_version}
-use Rattle.nv_replay.specs.Hands.{has}
+use Rattle.nv_room.proofs.Askings.{asked_append}
 use Rattle.nv_replay.proofs.Numbers.{eq_same}
-use Rattle.nv_workers.specs.Ends.{ends_of, AreHandedOn, Gap, AreGivenUp, asked_at, asked_in, AsPlanned}
+use Rattle.nv_workers.specs.Ends.{ends_of, AreHandedOn, Gap, AreGivenUp, AsPlanned}
 use Rattle.nv_workers.proofs.Spanned.{version_there}
 use Rattle.nv_workers.proofs.Keeping.{has_both, and_no}
 
@@ -149,14 +151,6 @@ pub kept_end : (planned : List ℕ) (b : ℕ) (xs : List Span) → Tiles 0 xs b 
 kept_end planned b xs t j y e kept event = kept_of planned b xs t j y e kept event
 
 -- ---- where none was asked for
-
-pub asked_append : (planned : List ℕ) (xs ys : List Span) → asked_in planned (xs ++ ys) ≡ asked_in planned xs ++ asked_in planned ys
-asked_append planned [] ys = refl
-asked_append planned (x ∷ xs) ys = step (asked_at planned x) (asked_append planned xs ys) where
-  step : (b : Bool) → asked_in planned (xs ++ ys) ≡ asked_in planned xs ++ asked_in planned ys
-      → (if b then x.to ∷ asked_in planned (xs ++ ys) else asked_in planned (xs ++ ys)) ≡ (if b then x.to ∷ asked_in planned xs else asked_in planned xs) ++ asked_in planned ys
-  step true later = ap (λ (ns : List ℕ). x.to ∷ ns) later
-  step false later = later
 
 -- one span more, at whose end none was asked for
 pub as_planned_more : (on_demand : Bool) (planned : List ℕ) (xs : List Span) (x : Span) → AsPlanned on_demand planned xs → (on_demand ≡ false → asked_at planned x ≡ false)

@@ -8,6 +8,7 @@ use Rattle.nv_calls.specs.Logs.{InRange, IsLawful, IsLegal, Start}
 use Rattle.nv_calls.proofs.LearningLaws.{legal_take}
 use Rattle.nv_words.specs.Spelling.{spell}
 use Rattle.nv_words.proofs.SpellLaws.{spell_alone, spell_length}
+use Rattle.nv_room.specs.Planned.{asked_in}
 use Rattle.nv_room.specs.declared.view.View.{View}
 use Rattle.nv_room.specs.declared.view.Span.{Span}
 use Rattle.nv_room.specs.Placement.{Log}
@@ -20,7 +21,7 @@ use Rattle.nv_replay.specs.Version.{Running}
 use Rattle.nv_replay.specs.Account.{AreFresh}
 use Rattle.nv_replay.proofs.Survivor.{lawful_prefix}
 use Rattle.nv_replay.proofs.Numbers.{some_at}
-use Rattle.nv_workers.specs.Ends.{Leaving, spelt, IsSpelling, IsFinished, HasRunAll, IsAccount, asked_in}
+use Rattle.nv_workers.specs.Ends.{Leaving, spelt, IsSpelling, IsFinished, HasRunAll, IsAccount}
 use Rattle.nv_workers.specs.Working.{leaving_of, HasEnded}
 use Rattle.nv_workers.proofs.Spelt.{same_spelt, long_as}
 use Rattle.nv_workers.proofs.Spanned.{place_below, who_is, who_below}
@@ -35,8 +36,8 @@ pub record IsTold {T : Type 0} (history : Log) (spans : List Span) (seating : Li
   pub last : IsLastStation seating k w.station
   pub before : Before spans w.station w.seen w.read
 
--- the spans of so many versions tile the history in order of station
-pub record AreTold {T : Type 0} (history : Log) (versions : ℕ) (w : ℕ → View T) : Type 0 where
+-- the spans of so many versions tile the history in order of station, and this holds of the lengths that were asked for
+pub record AreTold {T : Type 0} (planned : List ℕ) (asks : List ℕ → Type 0) (history : Log) (versions : ℕ) (w : ℕ → View T) : Type 0 where
   pub spans : List Span
   pub seating : List ℕ
   pub tile : Tiles 0 spans (length history)
@@ -44,6 +45,7 @@ pub record AreTold {T : Type 0} (history : Log) (versions : ℕ) (w : ℕ → Vi
   pub made : (j : ℕ) (x : Span) → get_elem? spans j ≡ some x → get_elem? seating x.station ≡ some x.version
   pub first : (k : ℕ) → k < versions → get_elem? seating k ≡ some k
   pub opened : Opened versions seating spans
+  pub asked : asks (asked_in planned spans)
   pub each : (k : ℕ) → k < versions → IsTold history spans seating k (w k)
 
 -- Words
@@ -96,7 +98,7 @@ spelling = record {
 
 -- The end
 
-module _ (judges : ℕ → Judge) {T : Type 0} (start : Start) (most : ℕ) (hands : List ℕ) (on_demand : Bool) (h : List Entry) (n : ℕ) (w : ℕ → View T) (law : IsLawful h) (told : AreTold (map spell h) n w) where
+module _ (judges : ℕ → Judge) {T : Type 0} (start : Start) (most : ℕ) (hands : List ℕ) (on_demand : Bool) (h : List Entry) (n : ℕ) (w : ℕ → View T) (law : IsLawful h) (asks : List ℕ → Type 0) (told : AreTold hands asks (map spell h) n w) where
   -- the events that the seat of version k has seen
   abbrev seen_by : ℕ → List Entry
   seen_by k = take (length (w k).seen) h
@@ -158,7 +160,7 @@ module _ (judges : ℕ → Judge) {T : Type 0} (start : Start) (most : ℕ) (han
   -- all versions have ended, and the room has told of them
   pub ending : (olds news : List (Running Proc)) → AreFresh threads 0 olds → length news ≡ length olds → length news ≡ n → IsLegal start h
       → ((k : ℕ) (old new : Running Proc) → slice_get olds k ≡ Some old → slice_get news k ≡ Some new → HasEnded judges most hands on_demand k old.at.process new (w k))
-      → (asked : List ℕ) × (on_demand ≡ false → asked ≡ []) × IsAccount threads judges start most (hands ++ asked) olds news h
+      → (asked : List ℕ) × (on_demand ≡ false → asked ≡ []) × IsAccount threads judges start most (hands ++ asked) olds news h × asks asked
   ending olds news fresh long all legal e = (
     asked_in hands told.spans,
     (λ off. unasked hands told.spans (λ j x q.
@@ -169,4 +171,5 @@ module _ (judges : ℕ → Judge) {T : Type 0} (start : Start) (most : ℕ) (han
     accounts threads thread_laws judges start most hands InRange spell spelling olds news h left (finished (length news) all) long
         (λ k x q. (law k x q).range)
         (λ k old new a b. done_by legal k old.at.process new (let m = slice_below news k new b in omega arith) (e k old new a b)) fresh law legal,
+    told.asked,
   )

@@ -15,7 +15,7 @@ use Rattle.nv_replay.specs.Follow.{Judge}
 use Rattle.nv_room.specs.declared.room.Left.{Left}
 use Rattle.nv_room.specs.Placement.{Log}
 use Rattle.nv_room.specs.Spans.{Before, of_version, IsLastStation, Opened}
-use Rattle.nv_room.specs.Seats.{IsLeftOf, left_view, version_of_left, versions_of, hands_of, on_demand_of, first_view}
+use Rattle.nv_room.specs.Seats.{IsLeftOf, left_view, version_of_left, versions_of, hands_of, on_demand_of, first_view, origin}
 use Rattle.nv_room.specs.Lefts.{IsEach, TellsOf, AllTell}
 use Rattle.nv_threads.specs.Threads.{Proc, threads}
 use Rattle.nv_replay.specs.LettingGo.{NoneLetGo}
@@ -31,6 +31,7 @@ use Rattle.nv_workers.specs.inner.Rounds.{CanAll, WorkedOn, AllOn, AreGone}
 use Rattle.nv_workers.specs.Staffing.{IsNewWorker, AreNew}
 use Rattle.nv_workers.specs.Ran.{AreApart, HasRun, HaveRun, AllRan}
 use Rattle.nv_workers.proofs.Ending.{IsTold, AreTold, ending}
+use Rattle.nv_room.specs.Room.{Became}
 
 -- Workers are taken apart
 
@@ -191,9 +192,9 @@ module _ (judges : ℕ → Judge) {K : Type 0} {G : Ghosts K} (room : Room K) (m
     before = subst (λ (s : ℕ). Before spans s (left_view l).seen (left_view l).read) (sym l.station_is) t.before;
   }
 
-  told_by : (d : View K) (history : Log) (counts : List ℕ) (fs vs : List (Running Proc)) (ls : List (Left K G)) (a : AllRan judges room most fs vs ls) → AllTell history counts ls
-      → length counts ≡ versions_of room → AreTold history (versions_of room) (view_at d ls)
-  told_by d history counts fs vs ls a t wide = record {
+  told_by : (d : View K) (kernel : K) (history : Log) (counts : List ℕ) (fs vs : List (Running Proc)) (ls : List (Left K G)) (a : AllRan judges room most fs vs ls) → AllTell room kernel history counts ls
+      → length counts ≡ versions_of room → AreTold (hands_of room) (Became G.start G.handed (origin room) kernel) history (versions_of room) (view_at d ls)
+  told_by d kernel history counts fs vs ls a t wide = record {
     spans = t.spans;
     seating = t.seating;
     tile = t.tile;
@@ -201,6 +202,7 @@ module _ (judges : ℕ → Judge) {K : Type 0} {G : Ghosts K} (room : Room K) (m
     made = t.made;
     first = λ k h. t.first k (omega arith);
     opened = subst (λ (n : ℕ). Opened n t.seating t.spans) wide t.opened;
+    asked = t.asked;
     each = λ k h.
         let x = left_there ls k (let all = a.all in omega arith) in
         let at : version_of_left x.0 ≡ k = (let q = (left_at 0 fs vs ls a.ran k x.0 x.1).1 in omega arith) in
@@ -217,13 +219,13 @@ module _ (judges : ℕ → Judge) {K : Type 0} {G : Ghosts K} (room : Room K) (m
   none_let_go i (f ∷ fs) (v ∷ vs) (l ∷ ls) r off = (r.0.ended.stays off, none_let_go (i + 1) fs vs ls r.1 off)
 
   -- what `end` promises
-  pub accounted : {fs vs : List (Running Proc)} {ls : List (Left K G)} → AllRan judges room most fs vs ls → (start : Start) (h : List Entry) {counts : List ℕ}
-      → IsLawful h → IsLegal start h → AllTell (map spell h) counts ls → length counts ≡ versions_of room
-      → (asked : List ℕ) × (on_demand_of room ≡ false → asked ≡ []) × IsAccount threads judges start most (hands_of room ++ asked) fs vs h
-  accounted {fs} {vs} {ls} a start h {counts} law legal t wide =
+  pub accounted : {fs vs : List (Running Proc)} {ls : List (Left K G)} → AllRan judges room most fs vs ls → (start : Start) (kernel : K) (h : List Entry) {counts : List ℕ}
+      → IsLawful h → IsLegal start h → AllTell room kernel (map spell h) counts ls → length counts ≡ versions_of room
+      → (asked : List ℕ) × (on_demand_of room ≡ false → asked ≡ []) × IsAccount threads judges start most (hands_of room ++ asked) fs vs h × Became G.start G.handed (origin room) kernel asked
+  accounted {fs} {vs} {ls} a start kernel h {counts} law legal t wide =
       let d : View K = first_view room 0 in
       let long = long_run judges room most 0 fs vs ls a.ran in
       let all : length vs ≡ versions_of room = long.1 ∙ (sym long.0 ∙ a.all) in
-      ending judges start most (hands_of room) (on_demand_of room) h (versions_of room) (view_at d ls) law (told_by d (map spell h) counts fs vs ls a t wide) fs vs a.fresh long.1 all legal
+      ending judges start most (hands_of room) (on_demand_of room) h (versions_of room) (view_at d ls) law (Became G.start G.handed (origin room) kernel) (told_by d kernel (map spell h) counts fs vs ls a t wide) fs vs a.fresh long.1 all legal
       (λ k old new o n. let z : 0 + k ≡ k = omega arith in
       subst (λ (j : ℕ). HasEnded judges most (hands_of room) (on_demand_of room) j old.at.process new (view_at d ls k)) z (ended_at d 0 fs vs ls a.ran k old new o n))

@@ -13,7 +13,8 @@ use Rattle.nv_replay.specs.declared.fate.Fate.TheVariants.{Memory}
 use Rattle.nv_replay.specs.Follow.{Follower, Judge, decided, fresh, IsInStep}
 use Rattle.nv_replay.specs.Lead.{Leader}
 use Rattle.nv_replay.specs.Tracks.{track_next}
-use Rattle.nv_replay.specs.Hands.{has, count_above, is_handed, next_or_hand, lead_to_hand}
+use Rattle.nv_calls.specs.Hands.{has}
+use Rattle.nv_replay.specs.Hands.{count_above, is_handed, next_or_hand, lead_to_hand}
 use Rattle.nv_replay.specs.Sequence.{is_going}
 use Rattle.nv_replay.specs.Spans.{EndBy}
 use Rattle.nv_replay.specs.Version.{Running, IsLiveLeader, asking_next, asking_by, became_event, leader_of}

@@ -16,11 +16,11 @@ use Rattle.nv_room.specs.declared.room.Lead.{Lead}
 use Rattle.nv_room.specs.Spans.{span, handed_on, LastHasEvent}
 use Rattle.nv_room.specs.Room.{Has, MayHand}
 use Rattle.nv_room.specs.Steps.{as_gone, as_leaving, as_lead}
-use Rattle.nv_room.specs.Seats.{IsOfRoom, IsLeadOf, view, lead_view, station_of_lead, version_of_reader, version_of_lead, kernel_of, due_of, stations_of, hands_of, on_demand_of, IsFreshLead, IsFreshReader}
+use Rattle.nv_room.specs.Seats.{IsOfRoom, IsLeadOf, view, lead_view, station_of_lead, version_of_reader, version_of_lead, kernel_of, due_of, stations_of, hands_of, on_demand_of, IsFreshLead, IsFreshReader, AskedSoFar}
 use Rattle.nv_threads.specs.Threads.{Proc, threads}
 use Rattle.nv_threads.proofs.ThreadLaws.{thread_laws}
 use Rattle.nv_replay.specs.Follow.{Follower, Judge}
-use Rattle.nv_replay.specs.Hands.{has}
+use Rattle.nv_calls.specs.Hands.{has}
 use Rattle.nv_replay.specs.Version.{Running, IsFresh, IsFollowing, IsLiveLeader}
 use Rattle.nv_replay.specs.Account.{with_span}
 use Rattle.nv_replay.proofs.Numbers.{eq_same}
@@ -66,10 +66,10 @@ module _ {judges : ℕ → Judge} {K : Type 0} {G : Ghosts K} {room : Room K} {m
   few_led = let b = bare_reading f in let q = b.few in omega arith
 
   pub takes_lead : (l : Lead K G) (new : Running Proc) → IsLeadOf room l
-      → version_of_lead l ≡ version_of_reader r → lead_view l ≡ as_lead (view r) → due_of l ≡ false
+      → version_of_lead l ≡ version_of_reader r → lead_view l ≡ as_lead (lead_view l).asked (view r) → due_of l ≡ false → AskedSoFar room l
       → map spell (G.log (kernel_of l)) ≡ (view r).seen → IsLawful (G.log (kernel_of l))
       → new ≡ with_span v v.at.seen → LeadsOn judges room most p new false l None
-  takes_lead l new of version w due spelt law k =
+  takes_lead l new of version w due asks spelt law k =
       let b = bare f in
       let log : List Entry = G.log (kernel_of l) in
       let before : List Span = (view r).spans in
@@ -98,6 +98,7 @@ module _ {judges : ℕ → Judge} {K : Type 0} {G : Ghosts K} {room : Room K} {m
         handed_on = b.handed_on;
         as_planned = b.as_planned;
         may = λ e. cc;
+        asks = asks;
         planned = λ e off. cc;
         serves = subst (λ (x : Running Proc). FromAny log (λ start. IsServing threads judges start most (hands_of room) false (version_of_lead l) p x (map ends_of before) (length log) log)) new' s2;
       }
@@ -210,6 +211,7 @@ module _ (judges : ℕ → Judge) where
           handed_on = tt;
           as_planned = λ off. refl;
           may = λ e. cc;
+          asks = n.asked;
           planned = λ e off. cc;
           serves = subst (λ (i : ℕ). S i (G.log (kernel_of l)) [] new) (sym n.version) (subst (λ (x : List Entry). S 0 x [] new) (sym log) s');
         }

@@ -32,7 +32,7 @@ module _ {K : Type 0} {G : Ghosts K} (n : ℕ) where
   pub comes_to_read : (l : Lead K G) (r : Reader K G) (asked : Option ℕ) (held : Bool) → Stepped n (lead_view l) (view r) → GoesBySteps n (Leading l asked) (Reading r held)
   comes_to_read l r asked held s = λ v at. (view r, refl, subst (λ (z : View K). Stepped n z (view r)) at s)
 
-  pub takes_by_steps : (r : Reader K G) (l : Lead K G) → lead_view l ≡ as_lead (view r) → Stepped n (view r) (lead_view l)
+  pub takes_by_steps : (r : Reader K G) (l : Lead K G) → lead_view l ≡ as_lead (lead_view l).asked (view r) → Stepped n (view r) (lead_view l)
   takes_by_steps r l is = one_step n (view r) (lead_view l) takes (r.role, is)
 
   pub reader_leaves : (r : Reader K G) (held : Bool) (l : Left K G) → left_view l ≡ as_gone (view r) → GoesBySteps n (Reading r held) (Gone l)

@@ -1,5 +1,5 @@
 -- A leader's version with its lead.
-use Rattle.std.proofs.Common.{◌≡◌, ◌∙◌, sym, ap, subst, ℕ, ◌+◌, ◌<◌, ◌≤◌, ◌⊎◌, inl, inr, refl, cond, nat_le, nat_lt, lt_of_not-le, Bool, true, false, List, [], ◌∷◌, ◌++◌, map, length, Option, Some, None, arith, length-append}
+use Rattle.std.proofs.Common.{◌≡◌, ◌∙◌, sym, ap, subst, ℕ, ◌+◌, ◌<◌, ◌≤◌, ◌⊎◌, inl, inr, refl, cond, nat_le, nat_lt, lt_of_not-le, Bool, true, false, List, [], ◌∷◌, ◌++◌, map, length, Option, Some, None, arith, length-append, append_assoc}
 use Rattle.std.proofs.lemmas.List.{map-append}
 use Rattle.std.proofs.lemmas.Bool.Decides.{nat_tests}
 use mathlib.Core.Logic.{dite}
@@ -16,29 +16,32 @@ use Rattle.nv_room.specs.declared.room.Room.{Room}
 use Rattle.nv_room.specs.declared.room.Lead.{Lead}
 use Rattle.nv_room.specs.Spans.{span, spans_grown}
 use Rattle.nv_room.specs.Planned.{below}
-use Rattle.nv_room.specs.Room.{MayHand}
-use Rattle.nv_room.specs.Seats.{IsLeadOf, SameLead, lead_view, station_of_lead, version_of_lead, kernel_of, due_of, stations_of, versions_of, hands_of, on_demand_of}
+use Rattle.nv_room.specs.Room.{MayHand, Became}
+use Rattle.nv_room.proofs.Askings.{became_on, asked_on}
+use Rattle.nv_room.specs.Seats.{IsLeadOf, SameLead, lead_view, station_of_lead, version_of_lead, kernel_of, due_of, stations_of, versions_of, hands_of, on_demand_of, origin, AskedSoFar}
 use Rattle.nv_threads.specs.Threads.{Proc, threads}
 use Rattle.nv_threads.proofs.ThreadLaws.{thread_laws}
 use Rattle.nv_replay.specs.declared.fate.Fate.TheVariants.{Memory}
 use Rattle.nv_replay.specs.Follow.{Judge}
-use Rattle.nv_replay.specs.Hands.{has, count_above}
+use Rattle.nv_calls.specs.Hands.{has, with_hand}
+use Rattle.nv_replay.specs.Hands.{count_above}
 use Rattle.nv_replay.specs.Sequence.{is_going}
 use Rattle.nv_replay.specs.Version.{Running, asking_next, became_event}
 use Rattle.nv_replay.proofs.Turning.{Waits as IsWaiting, waits}
 use Rattle.nv_workers.specs.Ends.{ends_of, AreHandedOn, AsPlanned, HasLedFrom}
 use Rattle.nv_workers.specs.Turns.{IsServing, IsAsking}
-use Rattle.nv_workers.specs.Working.{Serves, HasEnded, LeadsOn}
+use Rattle.nv_workers.specs.Working.{Serves, HasEnded, LeadsOn, asked_by}
 use Rattle.nv_workers.specs.Publishing.{event_of, IsPublished}
 use Rattle.nv_workers.specs.declared.follows.Next.{Next}
 use Rattle.nv_workers.specs.declared.follows.Next.TheVariants.{Moved, Ahead, Waits, Leads, Hands, Leaves, Left}
-use Rattle.nv_workers.specs.inner.Leads.{AfterLead, HasCome, HasDropped, HasPublished, IsLate, HasSpare, IsNext}
+use Rattle.nv_workers.specs.inner.Leads.{AfterLead, HasCome, HasDropped, HasPublished, IsLate, HasSpare, IsNext, gives_up}
 use Rattle.nv_workers.proofs.Spelt.{long_as}
 use Rattle.nv_workers.proofs.Spanned.{map_append}
 use Rattle.nv_workers.proofs.Keeping.{asking_on, leading, drops, refuses, publishes, serves_on, serves_to, planned_few}
 use Rattle.nv_workers.proofs.Moving.{has_at}
 use Rattle.nv_workers.proofs.Asked.{as_planned_more}
 use Rattle.nv_workers.proofs.LettingGo.{lead_kept}
+use Rattle.std.specs.Prelude.{not}
 
 -- what was published is seen
 pub grew_lead : {K : Type 0} {G : Ghosts K} (l l2 l3 l4 : Lead K G) (words : List ℕ) → (lead_view l2).seen ≡ (lead_view l).seen → lead_view l3 ≡ lead_view l2
@@ -115,6 +118,14 @@ ended_lead {judges = judges} {most = most} {hands = hands} {on_demand = on_deman
       };
     }
 
+-- what is asked for stands behind what was
+asked_behind : (b : Bool) (planned : List ℕ) (n : ℕ) (before lengths : List ℕ) → asked_by b planned n (before ++ lengths) ≡ before ++ asked_by b planned n lengths
+asked_behind false planned n before lengths = refl
+asked_behind true planned n before lengths = with_behind (not (has planned n)) where
+  with_behind : (c : Bool) → with_hand c n (before ++ lengths) ≡ before ++ with_hand c n lengths
+  with_behind true = append_assoc before lengths (n ∷ [])
+  with_behind false = refl
+
 of_same : {K : Type 0} {G : Ghosts K} (room : Room K) (l l2 : Lead K G) → IsLeadOf room l → SameLead l l2 → lead_view l2 ≡ lead_view l → IsLeadOf room l2
 of_same {K} room l l2 of same w = (
   same.0 ∙ of.0,
@@ -149,9 +160,10 @@ module _ {judges : ℕ → Judge} {K : Type 0} {G : Ghosts K} {room : Room K} {m
       (subst (λ (x : List (List ℕ)). MayHand (stations_of room) (hands_of room) (lead_view l).opened (length x)) (sym seen) m)
 
   -- looks and reserves leave what counts
-  moved_lead : (l2 : Lead K G) → IsLeadOf room l2 → SameLead l l2 → due_of l2 ≡ due_of l → G.log (kernel_of l2) ≡ G.log (kernel_of l) → (lead_view l2).seen ≡ (lead_view l).seen
+  moved_lead : (l2 : Lead K G) → IsLeadOf room l2 → SameLead l l2 → due_of l2 ≡ due_of l → G.log (kernel_of l2) ≡ G.log (kernel_of l)
+      → G.start (kernel_of l2) ≡ G.start (kernel_of l) → ((lengths : List ℕ) → G.handed (kernel_of l) lengths → G.handed (kernel_of l2) lengths) → (lead_view l2).seen ≡ (lead_view l).seen
       → (lead_view l2).wrote ≡ (lead_view l).wrote → (lead_view l2).spans ≡ (lead_view l).spans → LeadsOn judges room most p v over l2 asked
-  moved_lead l2 of same due log seen wrote spans = record {
+  moved_lead l2 of same due log start handed seen wrote spans = record {
     of = of;
     none_due = due ∙ f.none_due;
     none_wrote = wrote ∙ f.none_wrote;
@@ -163,6 +175,7 @@ module _ {judges : ℕ → Judge} {K : Type 0} {G : Ghosts K} {room : Room K} {m
     handed_on = f.handed_on;
     as_planned = f.as_planned;
     may = λ e. moved_may l2 same seen (f.may e);
+    asks = subst (λ (xs : List ℕ). Became G.start G.handed (origin room) (kernel_of l2) xs) (λ i. asked_by over (hands_of room) (length (sym seen i)) (sym same.5 i)) (became_on G.start G.handed (origin room) (kernel_of l) (kernel_of l2) _ start handed f.asks);
     planned = λ e off. subst (λ (x : List (List ℕ)). has (hands_of room) (length x) ≡ true) (sym seen) (f.planned e off);
     serves = (let S : ℕ → List Entry → Type 0 = λ s x. FromAny x (λ start. Serves judges p v s start most (hands_of room) over (map ends_of f.before) f.from x asked) in
         subst (λ (s : ℕ). S s (G.log (kernel_of l2))) (sym same.3) (subst (λ (x : List Entry). S (version_of_lead l) x) (sym log) f.serves));
@@ -170,11 +183,11 @@ module _ {judges : ℕ → Judge} {K : Type 0} {G : Ghosts K} {room : Room K} {m
 
   pub placed_lead : (l2 : Lead K G) → IsLeadOf room l2 → SameLead l l2 → due_of l2 ≡ due_of l → kernel_of l2 ≡ kernel_of l → (lead_view l2).seen ≡ (lead_view l).seen
       → (lead_view l2).wrote ≡ (lead_view l).wrote → (lead_view l2).spans ≡ (lead_view l).spans → LeadsOn judges room most p v over l2 asked
-  placed_lead l2 of same due kernel seen wrote spans = moved_lead l2 of same due (ap G.log kernel) seen wrote spans
+  placed_lead l2 of same due kernel seen wrote spans = moved_lead l2 of same due (ap G.log kernel) (ap G.start kernel) (λ lengths h. subst (λ (k : K). G.handed k lengths) (sym kernel) h) seen wrote spans
 
   pub reserved_lead : (l2 : Lead K G) → SameLead l l2 → lead_view l2 ≡ lead_view l → due_of l2 ≡ due_of l → G.log (kernel_of l2) ≡ G.log (kernel_of l)
-      → LeadsOn judges room most p v over l2 asked
-  reserved_lead l2 same w due log = moved_lead l2 (of_same room l l2 f.of same w) same due log
+      → G.start (kernel_of l2) ≡ G.start (kernel_of l) → ((lengths : List ℕ) → G.handed (kernel_of l) lengths → G.handed (kernel_of l2) lengths) → LeadsOn judges room most p v over l2 asked
+  reserved_lead l2 same w due log start handed = moved_lead l2 (of_same room l l2 f.of same w) same due log start handed
       (ap (λ (x : View K). x.seen) w) (ap (λ (x : View K). x.wrote) w) (ap (λ (x : View K). x.spans) w)
 
 -- no call is asked
@@ -197,6 +210,7 @@ module _ {judges : ℕ → Judge} {K : Type 0} {G : Ghosts K} {room : Room K} {m
     handed_on = f.handed_on;
     as_planned = f.as_planned;
     may = λ e. cc;
+    asks = f.asks;
     planned = λ e off. cc;
     serves = λ start legal. (record { before = v; serving = f.serves start legal; asking = k }, a);
   }
@@ -268,7 +282,7 @@ module _ {judges : ℕ → Judge} {K : Type 0} {G : Ghosts K} {room : Room K} {m
         subst (λ (x : List Entry). HasLedFrom threads judges start most hands (version_of_lead l) p new led f.from x) (sym all)
         (publishes threads thread_laws judges start most hands a.0 asked_now now (subst IsLawful all q.lawful))
 
-    spelt_now : map spell log2 ≡ (lead_view l2).seen
+    pub spelt_now : map spell log2 ≡ (lead_view l2).seen
     spelt_now = ap (map spell) q.log ∙ (map-append spell log (event ∷ []) ∙ (ap (λ (x : List (List ℕ)). x ++ spell event ∷ []) f.spelt ∙ sym q.seen))
 
     long_now : length (lead_view l2).seen ≡ length (lead_view l).seen + 1
@@ -278,7 +292,7 @@ module _ {judges : ℕ → Judge} {K : Type 0} {G : Ghosts K} {room : Room K} {m
     spans_now = q.spans ∙ (ap spans_grown f.spans ∙ (grown_last f.before (station_of_lead l) (version_of_lead l) f.from (length (lead_view l).seen)
         ∙ (λ j. f.before ++ span (sym q.same.2 j) (sym q.same.3 j) f.from (sym long_now j) ∷ [])))
 
-    seen_now : new.at.seen ≡ length log2
+    pub seen_now : new.at.seen ≡ length log2
     seen_now = (led_now (as_told log2) (legal_told log2 q.lawful)).seen
 
     -- it has served one call at least
@@ -293,9 +307,10 @@ module _ {judges : ℕ → Judge} {K : Type 0} {G : Ghosts K} {room : Room K} {m
         (ended_lead (version_of_lead l2) f.before f.from log2 spelt_now q.lawful spans_now l2.station_is f.handed_on f.as_planned led_now e)
 
     leads_now : (over : Bool) → (over ≡ true → MayHand (stations_of room) hands (lead_view l2).opened (length (lead_view l2).seen))
+        → Became G.start G.handed (origin room) (kernel_of l2) (asked_by over hands (length (lead_view l2).seen) (lead_view l2).asked)
         → (over ≡ true → on_demand ≡ false → has hands (length (lead_view l2).seen) ≡ true)
         → FromAny log2 (λ start. IsServing threads judges start most hands over (version_of_lead l) p new led f.from log2) → LeadsOn judges room most p new over l2 None
-    leads_now over may planned sv = record {
+    leads_now over may asks planned sv = record {
       of = q.of;
       none_due = q.due;
       none_wrote = q.wrote;
@@ -307,6 +322,7 @@ module _ {judges : ℕ → Judge} {K : Type 0} {G : Ghosts K} {room : Room K} {m
       handed_on = f.handed_on;
       as_planned = f.as_planned;
       may = may;
+      asks = asks;
       planned = planned;
       serves = subst (λ (i : ℕ). FromAny log2 (λ start. IsServing threads judges start most hands over i p new led f.from log2)) (sym q.same.3) sv;
     }
@@ -332,42 +348,44 @@ module _ {judges : ℕ → Judge} {K : Type 0} {G : Ghosts K} {room : Room K} {m
     few_now start legal (inr h) = omega (arith, h.part, parts_now, ap (count_above hands) seen_now)
 
     -- what comes next
-    pub after_served : (next : Next) → IsNext hands room new l2 next → AfterLead judges room most p new l2 None next
-    after_served Moved n = leads_now false (λ e. cc) (λ e off. cc)
+    pub after_served : (next : Next) → IsNext hands room new l2 next → Became G.start G.handed (origin room) (kernel_of l2) (asked_by (gives_up next) hands (length (lead_view l2).seen) (lead_view l2).asked)
+        → AfterLead judges room most p new l2 None next
+    after_served Moved n asks = leads_now false (λ e. cc) asks (λ e off. cc)
         (λ start legal. serves_on threads thread_laws judges start most hands (led_now start legal) n.0 none_asked (ap (has hands) (sym seen_now) ∙ n.1))
-    after_served Ahead n = absurd n
-    after_served Waits n = absurd n
-    after_served Leads n = absurd n
-    after_served Hands n = (
-      leads_now true (λ e. may_now n.1) (λ e. planned_now n.1) (λ start legal. serves_to threads thread_laws judges start most hands (led_now start legal) n.0 none_asked grew (few_now start legal n.1)),
+    after_served Ahead n asks = absurd n
+    after_served Waits n asks = absurd n
+    after_served Leads n asks = absurd n
+    after_served Hands n asks = (
+      leads_now true (λ e. may_now n.1) asks (λ e. planned_now n.1) (λ start legal. serves_to threads thread_laws judges start most hands (led_now start legal) n.0 none_asked grew (few_now start legal n.1)),
       refl,
     )
-    after_served Leaves n = (q.of, q.due, ended_now n)
-    after_served Left n = absurd n
+    after_served Leaves n asks = (q.of, q.due, ended_now n, asks)
+    after_served Left n asks = absurd n
 
--- what comes next is the same by the lead as it was
-pub next_before : {K : Type 0} {G : Ghosts K} (planned : List ℕ) (room : Room K) (v : Running Proc) (l l2 : Lead K G) → SameLead l l2 → (next : Next) → IsNext planned room v l2 next → IsNext planned room v l next
-next_before planned room v l l2 same Moved n = n
-next_before planned room v l l2 same Ahead n = n
-next_before planned room v l l2 same Waits n = n
-next_before planned room v l l2 same Leads n = n
-next_before planned room v l l2 same Hands (on, inl h) = (on, inl h)
-next_before planned room v l l2 same Hands (on, inr h) =
-    (on, inr (record { demand = h.demand; station = subst (λ (n : ℕ). n + count_above planned v.at.seen < stations_of room) same.4 h.station; part = h.part }))
-next_before planned room v l l2 same Leaves n = n
-next_before planned room v l l2 same Left n = n
+-- the leader was asked what comes next
+module _ {K : Type 0} {G : Ghosts K} (room : Room K) (v new : Running Proc) (l l2 l3 : Lead K G) (t : ℕ) (p : IsPublished room v l t new l2) (same : SameLead l2 l3) (w : lead_view l3 ≡ lead_view l2) (due : due_of l3 ≡ due_of l2)
+    (as_log : G.log (kernel_of l3) ≡ G.log (kernel_of l2)) where
+  pub published_then : IsPublished room v l t new l3
+  published_then = record {
+    of = of_same room l2 l3 p.of same w;
+    same = (same.0 ∙ p.same.0, same.1 ∙ p.same.1, same.2 ∙ p.same.2, same.3 ∙ p.same.3, same.4 ∙ p.same.4, same.5 ∙ p.same.5);
+    due = due ∙ p.due;
+    wrote = ap (λ (x : View K). x.wrote) w ∙ p.wrote;
+    log = as_log ∙ p.log;
+    lawful = subst IsLawful (sym as_log) p.lawful;
+    seen = ap (λ (x : View K). x.seen) w ∙ p.seen;
+    spans = ap (λ (x : View K). x.spans) w ∙ p.spans;
+    version = p.version;
+  }
 
--- the leader was asked whether it gives up the lead
-pub after_asked : {K : Type 0} {G : Ghosts K} (judges : ℕ → Judge) (room : Room K) (most : ℕ) (p : Proc) (v : Running Proc) (l l2 : Lead K G) (next : Next)
-    → SameLead l l2 → lead_view l2 ≡ lead_view l → due_of l2 ≡ due_of l → G.log (kernel_of l2) ≡ G.log (kernel_of l) → AfterLead judges room most p v l None next → AfterLead judges room most p v l2 None next
-after_asked judges room most p v l l2 Moved same w due as_log a = reserved_lead a l2 same w due as_log
-after_asked judges room most p v l l2 Ahead same w due as_log a = absurd a
-after_asked judges room most p v l l2 Waits same w due as_log a = reserved_lead a l2 same w due as_log
-after_asked judges room most p v l l2 Leads same w due as_log a = absurd a
-after_asked judges room most p v l l2 Hands same w due as_log a = (reserved_lead a.0 l2 same w due as_log, refl)
-after_asked {K} {G} judges room most p v l l2 Leaves same w due as_log a = (
-  of_same room l l2 a.0 same w,
-  due ∙ a.1,
-  subst (λ (i : ℕ). HasEnded judges most (hands_of room) (on_demand_of room) i p v (lead_view l2)) (sym same.3) (subst (λ (x : View K). HasEnded judges most (hands_of room) (on_demand_of room) (version_of_lead l) p v x) (sym w) a.2),
-)
-after_asked judges room most p v l l2 Left same w due as_log a = absurd a
+  -- and has asked the kernel by then
+  pub asked_next : (b : Bool) → map spell (G.log (kernel_of l3)) ≡ (lead_view l3).seen → G.start (kernel_of l3) ≡ G.start (kernel_of l2)
+      → ((lengths : List ℕ) → G.handed (kernel_of l2) lengths → G.handed (kernel_of l3) (asked_by b (hands_of room) (length (G.log (kernel_of l2))) lengths))
+      → AskedSoFar room l2 → Became G.start G.handed (origin room) (kernel_of l3) (asked_by b (hands_of room) (length (lead_view l3).seen) (lead_view l3).asked)
+  asked_next b spelt start handed asks =
+      let long : length (G.log (kernel_of l2)) ≡ length (lead_view l3).seen = ap (λ (x : List Entry). length x) (sym as_log) ∙ sym (long_as (G.log (kernel_of l3))) ∙ ap (λ (x : List (List ℕ)). length x) spelt in (
+        start ∙ asks.0,
+        λ before h. subst (G.handed (kernel_of l3))
+            (asked_behind b (hands_of room) (length (G.log (kernel_of l2))) before (lead_view l2).asked ∙ (λ i. before ++ asked_by b (hands_of room) (long i) (sym same.5 i)))
+            (handed (before ++ (lead_view l2).asked) (asks.1 before h)),
+      )

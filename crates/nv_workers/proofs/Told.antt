@@ -16,7 +16,8 @@ use Rattle.nv_replay.specs.LettingGo.{stop_of, front, let_go}
 use Rattle.nv_replay.proofs.LettingGo.{uncut, ended_is, let_go_is}
 use Rattle.nv_replay.proofs.Stops.{stop_same, stop_at, stop_below, track_tells}
 use Rattle.nv_replay.specs.Tracks.{track_next}
-use Rattle.nv_replay.specs.Hands.{has, is_handed, next_or_hand, lead_to_hand}
+use Rattle.nv_calls.specs.Hands.{has}
+use Rattle.nv_replay.specs.Hands.{is_handed, next_or_hand, lead_to_hand}
 use Rattle.nv_replay.specs.Sequence.{Account, is_going, cuts_of}
 use Rattle.nv_replay.specs.Monitor.{Part, led_line, tracked_by, leads_on, told_standing, lines_of, sequence}
 use Rattle.nv_replay.specs.Covers.{AreEnded, Covers}
@@ -31,10 +32,11 @@ use Rattle.nv_replay.proofs.Wholly.{suits_end}
 use Rattle.nv_replay.proofs.Surviving.{length_take}
 use Rattle.nv_replay.proofs.Covering.{covers}
 use Rattle.nv_replay.proofs.Agreeing.{survivors}
+use Rattle.nv_room.specs.Planned.{asked_in}
 use Rattle.nv_room.specs.declared.view.Span.{Span}
 use Rattle.nv_room.specs.Spans.{Rising, of_station, of_version, Opened, Opens as Opens'}
 use Rattle.nv_words.specs.Spelling.{flag_bit}
-use Rattle.nv_workers.specs.Ends.{IsCutOf, ends_of, AreHandedOn, Leaving, IsSpelling, spelt, IsFinished, version_tracked, leader_begun, TakesLead, HandedOver, Gap, AreGivenUp, asked_in, HasLedFrom, IsDroppedAt, IsLetGoAt, HasFollowed, LeftWith, HasRunAll, IsAccount}
+use Rattle.nv_workers.specs.Ends.{IsCutOf, ends_of, AreHandedOn, Leaving, IsSpelling, spelt, IsFinished, version_tracked, leader_begun, TakesLead, HandedOver, Gap, AreGivenUp, HasLedFrom, IsDroppedAt, IsLetGoAt, HasFollowed, LeftWith, HasRunAll, IsAccount}
 use Rattle.nv_workers.proofs.Prefixes.{with_next, take_within}
 use Rattle.nv_workers.proofs.LettingGo.{lead_kept}
 use Rattle.nv_workers.proofs.Keeping.{reaches, split_last, hands_planned}

@@ -1,10 +1,11 @@
 -- What the room and the workers tell once all versions have ended.
-use Rattle.std.specs.Prelude.{◌≡◌, ℕ, ◌+◌, ◌<◌, ◌≤◌, ◌⊎◌, Bool, true, false, not, ◌&&◌, nat_lt, if◌then◌else◌, List, [], ◌∷◌, ◌++◌, map, length, take, Option, Some, None, slice_get}
+use Rattle.std.specs.Prelude.{◌≡◌, ℕ, ◌+◌, ◌<◌, ◌≤◌, ◌⊎◌, Bool, true, false, List, [], ◌∷◌, ◌++◌, map, length, take, Option, Some, None, slice_get}
 use mathlib.Core.Option.{some}
 use lib.ListN.{get_elem?}
 use Rattle.nv_calls.specs.Calls.{Entry}
 use Rattle.nv_calls.specs.Logs.{Start}
 use Rattle.nv_room.specs.declared.view.Span.{Span}
+use Rattle.nv_room.specs.Planned.{asked_in}
 use Rattle.nv_room.specs.Spans.{Tiles, Rising, of_version, IsLastStation, Opened}
 use Rattle.nv_threads.specs.Behaviours.{Behaviour}
 use Rattle.nv_replay.specs.declared.fate.Fate.{Fate}
@@ -13,7 +14,8 @@ use Rattle.nv_replay.specs.Settling.{stage}
 use Rattle.nv_replay.specs.Follow.{Follower, Judge, fresh, IsInStep}
 use Rattle.nv_replay.specs.Lead.{Leader, is_cut, cut_of}
 use Rattle.nv_replay.specs.Tracks.{track_next, track}
-use Rattle.nv_replay.specs.Hands.{has, count_above, next_or_hand, lead_to_hand}
+use Rattle.nv_calls.specs.Hands.{has}
+use Rattle.nv_replay.specs.Hands.{count_above, next_or_hand, lead_to_hand}
 use Rattle.nv_replay.specs.Sequence.{is_going, cuts_of}
 use Rattle.nv_replay.specs.Monitor.{sequence}
 use Rattle.nv_replay.specs.Spans.{EndBy}
@@ -109,14 +111,6 @@ Gap asked from to = (n : ℕ) → from < n → n < to → has asked n ≡ false
 -- with the lengths that were asked for beside the planned ones, the lead is given up just where these parts end
 abbrev pub AreGivenUp : List ℕ → List ℕ → List (ℕ × ℕ) → Type 0
 AreGivenUp planned asked led = (prefix back : List (ℕ × ℕ)) (from to : ℕ) → led ≡ prefix ++ (from, to) ∷ back → from < to → Gap asked from to × (has (planned ++ asked) to ≡ true)
-
--- a span with an event ended with a hand-over, at a length that isn't planned: there it was asked for
-abbrev pub asked_at : List ℕ → Span → Bool
-asked_at planned x = x.handed && (nat_lt x.from x.to && not (has planned x.to))
-
-abbrev pub asked_in : List ℕ → List Span → List ℕ
-asked_in planned [] = []
-asked_in planned (x ∷ xs) = if asked_at planned x then x.to ∷ asked_in planned xs else asked_in planned xs
 
 -- where leaders don't hand over on demand, none of these spans' hand-overs was asked for
 abbrev pub AsPlanned : Bool → List ℕ → List Span → Type 0

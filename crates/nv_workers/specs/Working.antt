@@ -11,12 +11,13 @@ use Rattle.nv_room.specs.declared.room.Room.{Room}
 use Rattle.nv_room.specs.declared.room.Reader.{Reader}
 use Rattle.nv_room.specs.declared.room.Lead.{Lead}
 use Rattle.nv_room.specs.Spans.{span}
-use Rattle.nv_room.specs.Room.{MayHand}
-use Rattle.nv_room.specs.Seats.{IsOfRoom, IsLeadOf, view, lead_view, version_of_reader, station_of_lead, version_of_lead, kernel_of, due_of, stations_of, hands_of, on_demand_of}
+use Rattle.nv_room.specs.Planned.{asked_then}
+use Rattle.nv_room.specs.Room.{MayHand, Became}
+use Rattle.nv_room.specs.Seats.{IsOfRoom, IsLeadOf, view, lead_view, version_of_reader, station_of_lead, version_of_lead, kernel_of, due_of, stations_of, hands_of, on_demand_of, origin}
 use Rattle.nv_threads.specs.Threads.{Proc, threads}
 use Rattle.nv_replay.specs.Follow.{Judge}
 use Rattle.nv_replay.specs.Version.{Running}
-use Rattle.nv_replay.specs.Hands.{has}
+use Rattle.nv_calls.specs.Hands.{has}
 use Rattle.nv_replay.specs.LettingGo.{is_let_go}
 use Rattle.nv_workers.specs.Ends.{Leaving, ends_of, AreHandedOn, AsPlanned, HasRunAll}
 use Rattle.nv_workers.specs.Turns.{held_list, IsReaders, IsServing, IsAsking}
@@ -48,6 +49,11 @@ pub record HasEnded (judges : ℕ → Judge) {T : Type 0} (most : ℕ) (hands : 
 abbrev pub Serves : (ℕ → Judge) → Proc → Running Proc → ℕ → Start → ℕ → List ℕ → Bool → List (ℕ × ℕ) → ℕ → List Entry → Option ℕ → Type 0
 Serves judges p v i start most hands over led from log None = IsServing threads judges start most hands over i p v led from log
 Serves judges p v i start most hands over led from log (Some t) = IsAsking threads judges start most hands i p v led from log × (v.asked ≡ Some t)
+
+-- These lengths; where the lead is given up at this one, it as well, unless it is planned.
+abbrev pub asked_by : Bool → List ℕ → ℕ → List ℕ → List ℕ
+asked_by true planned n lengths = asked_then planned n lengths
+asked_by false planned n lengths = lengths
 
 module _ (judges : ℕ → Judge) {K : Type 0} {G : Ghosts K} (room : Room K) (most : ℕ) (p : Proc) (v : Running Proc) where
   -- a version without a fate that was fresh with the process p, and its reader
@@ -90,5 +96,6 @@ module _ (judges : ℕ → Judge) {K : Type 0} {G : Ghosts K} (room : Room K) (m
     pub handed_on : AreHandedOn before
     pub as_planned : AsPlanned (on_demand_of room) (hands_of room) before
     pub may : over ≡ true → MayHand (stations_of room) (hands_of room) (lead_view l).opened (length (lead_view l).seen)
+    pub asks : Became G.start G.handed (origin room) (kernel_of l) (asked_by over (hands_of room) (length (lead_view l).seen) (lead_view l).asked)
     pub planned : over ≡ true → on_demand_of room ≡ false → has (hands_of room) (length (lead_view l).seen) ≡ true
     pub serves : FromAny (G.log (kernel_of l)) (λ start. Serves judges p v (version_of_lead l) start most (hands_of room) over (map ends_of before) from (G.log (kernel_of l)) asked)

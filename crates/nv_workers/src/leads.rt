@@ -1,15 +1,16 @@
 //! A leader's turn.
-ghost use Rattle.std.specs.Prelude.{◌≡◌, ◌≤◌, ℕ, Some, None, false, true, length, IfSome};
+ghost use Rattle.std.specs.Prelude.{◌≡◌, ◌≤◌, ℕ, List, Some, None, false, true, length, IfSome};
 ghost use Rattle.nv_threads.specs.Threads.{Proc, threads};
 ghost use Rattle.nv_replay.specs.Follow.{Judge};
-ghost use Rattle.nv_replay.specs.Hands.{has, count_above};
+ghost use Rattle.nv_calls.specs.Hands.{has};
+ghost use Rattle.nv_replay.specs.Hands.{count_above};
 ghost use Rattle.nv_replay.specs.Version.{IsLiveLeader};
 ghost use Rattle.nv_room.specs.Kinds.{Stepped};
 ghost use Rattle.nv_room.specs.Seats.{SameLead, lead_view, stations_of, version_of_lead, kernel_of, due_of};
 ghost use Rattle.nv_workers.specs.Terms.{AreOfRoom};
-ghost use Rattle.nv_workers.specs.Working.{LeadsOn};
+ghost use Rattle.nv_workers.specs.Working.{LeadsOn, asked_by};
 ghost use Rattle.nv_workers.specs.Growing.{OneMoreAtMost};
-ghost use Rattle.nv_workers.specs.inner.Leads.{AfterLead, HasCome, HasDropped, HasPublished, IsLate, HasSpare, IsNext};
+ghost use Rattle.nv_workers.specs.inner.Leads.{AfterLead, HasCome, HasDropped, HasPublished, IsLate, HasSpare, IsNext, gives_up};
 
 use crate::follows::Next;
 use crate::gate::{Gate, VersionNumber};
@@ -91,11 +92,14 @@ fn next_of<K: SyscallKernel>(
     room: &Room<K>,
     hands: &[u32],
 ) -> Next
+    requires seen { version.now.at.seen ≡ length (K.log (kernel_of lead.old)) }
     ensures next { IsNext hands.now room.now version.now lead.new result }
     ensures same { SameLead lead.old lead.new }
     ensures view { lead_view lead.new ≡ lead_view lead.old }
     ensures due { due_of lead.new ≡ due_of lead.old }
     ensures log { K.log (kernel_of lead.new) ≡ K.log (kernel_of lead.old) }
+    ensures start { K.start (kernel_of lead.new) ≡ K.start (kernel_of lead.old) }
+    ensures handed { (lengths : List ℕ) → K.handed (kernel_of lead.old) lengths → K.handed (kernel_of lead.new) (asked_by (gives_up result) hands.now (length (K.log (kernel_of lead.old))) lengths) }
 {
     if version.standing().fate.is_some() {
         return Next::Leaves;

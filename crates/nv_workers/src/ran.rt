@@ -7,6 +7,7 @@ ghost use Rattle.nv_replay.specs.Account.{AreFresh};
 ghost use Rattle.nv_replay.specs.Follow.{Judge};
 ghost use Rattle.nv_replay.specs.LettingGo.{NoneLetGo};
 ghost use Rattle.nv_replay.specs.Version.{Running, standing_of};
+ghost use Rattle.nv_room.specs.Room.{Became};
 ghost use Rattle.nv_room.specs.Seats.{versions_of, hands_of, on_demand_of, origin};
 ghost use Rattle.nv_workers.specs.Ends.{IsAccount};
 ghost use Rattle.nv_workers.specs.Terms.{AreOfRoom, judges_of};
@@ -182,12 +183,14 @@ fn take_apart<K: SyscallKernel>(
 }
 
 /// The room ends, and the account is that of the versions one after another: the plain monitor's, with the planned lengths and
-/// those at which leaders handed over besides, of which there are none in a room whose leaders don't hand over on demand.
+/// those at which leaders handed over besides, of which there are none in a room whose leaders don't hand over on demand. Those are
+/// just the lengths at which the kernel asked for it.
 pub fn end<K: SyscallKernel>(ran: Ran<K>) -> Account<K>
     requires { (judges : ℕ → Judge) × (most : ℕ) × (fresh : List (Running Proc)) × AllRan judges ran.room most fresh ran.versions.items ran.left.items }
     ensures start { K.start result.kernel ≡ K.start (origin ran.room) }
     ensures account { (judges : ℕ → Judge) (most : ℕ) (fresh : List (Running Proc)) → AllRan judges ran.room most fresh ran.versions.items ran.left.items
-        → (asked : List ℕ) × (on_demand_of ran.room ≡ false → asked ≡ []) × IsAccount threads judges (K.known result.kernel) most (hands_of ran.room ++ asked) fresh result.versions.items (K.log result.kernel) }
+        → (asked : List ℕ) × (on_demand_of ran.room ≡ false → asked ≡ []) × IsAccount threads judges (K.known result.kernel) most (hands_of ran.room ++ asked) fresh result.versions.items (K.log result.kernel)
+        × Became K.start K.handed (origin ran.room) result.kernel asked }
 
     // where leaders don't hand over on demand, no version was let go
     ensures stays { (judges : ℕ → Judge) (most : ℕ) (fresh : List (Running Proc)) → AllRan judges ran.room most fresh ran.versions.items ran.left.items
@@ -196,7 +199,8 @@ pub fn end<K: SyscallKernel>(ran: Ran<K>) -> Account<K>
     // where what a kernel was made over tells how it goes on, the account is from what the room's was made over
     ensures foretold { (told : K.Beginning → Start) → ((k : K) → K.known k ≡ told (K.start k))
         → (judges : ℕ → Judge) (most : ℕ) (fresh : List (Running Proc)) → AllRan judges ran.room most fresh ran.versions.items ran.left.items
-        → (asked : List ℕ) × (on_demand_of ran.room ≡ false → asked ≡ []) × IsAccount threads judges (told (K.start (origin ran.room))) most (hands_of ran.room ++ asked) fresh result.versions.items (K.log result.kernel) }
+        → (asked : List ℕ) × (on_demand_of ran.room ≡ false → asked ≡ []) × IsAccount threads judges (told (K.start (origin ran.room))) most (hands_of ran.room ++ asked) fresh result.versions.items (K.log result.kernel)
+        × Became K.start K.handed (origin ran.room) result.kernel asked }
 {
     let Ran {
         room,

@@ -4,7 +4,7 @@ ghost use Rattle.nv_threads.specs.Threads.{Proc, threads};
 ghost use Rattle.nv_replay.specs.Follow.{Judge};
 ghost use Rattle.nv_replay.specs.Version.{IsFresh, Running};
 ghost use Rattle.nv_room.specs.Kinds.{Stepped};
-ghost use Rattle.nv_room.specs.Seats.{IsLeadOf, IsLeftOf, version_of_lead, version_of_reader, version_of_left, stations_of, view, lead_view, left_view, due_of};
+ghost use Rattle.nv_room.specs.Seats.{IsLeadOf, IsLeftOf, version_of_lead, version_of_reader, version_of_left, stations_of, view, lead_view, left_view, due_of, AskedSoFar};
 ghost use Rattle.nv_room.specs.Steps.{as_gone, as_leaving};
 ghost use Rattle.nv_workers.specs.Terms.{AreOfRoom, judges_of};
 ghost use Rattle.nv_workers.specs.Working.{FollowsOn, LeadsOn};
@@ -319,6 +319,7 @@ fn give_lead<K: SyscallKernel>(version: &mut Version, lead: Lead<K>, room: &Room
 fn give_up<K: SyscallKernel>(lead: Lead<K>, room: &Room<K>) -> Left<K>
     requires of { IsLeadOf room.now lead }
     requires none_due { due_of lead ≡ false }
+    requires asked { AskedSoFar room.now lead }
     ensures of { IsLeftOf room.now result }
     ensures version { version_of_left result ≡ version_of_lead lead }
     ensures view { left_view result ≡ as_gone (as_leaving (lead_view lead) (left_view result).owner_last) }

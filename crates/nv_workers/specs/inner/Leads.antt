@@ -1,14 +1,15 @@
 -- What a leader's turn comes to.
-use Rattle.std.specs.Prelude.{◌≡◌, ◌+◌, ◌<◌, ◌≤◌, ◌⊎◌, ℕ, true, false, List, length, Option, None, Some}
+use Rattle.std.specs.Prelude.{◌≡◌, ◌+◌, ◌<◌, ◌≤◌, ◌⊎◌, ℕ, Bool, true, false, List, length, Option, None, Some}
 use Rattle.nv_calls.specs.declared.kernel.SyscallKernel.{Ghosts}
 use Rattle.nv_room.specs.declared.view.View.{View}
 use Rattle.nv_room.specs.declared.room.Room.{Room}
 use Rattle.nv_room.specs.declared.room.Lead.{Lead}
-use Rattle.nv_room.specs.Seats.{IsLeadOf, lead_view, version_of_lead, opened_of, due_of, stations_of, hands_of, on_demand_of}
+use Rattle.nv_room.specs.Seats.{IsLeadOf, lead_view, version_of_lead, opened_of, due_of, stations_of, hands_of, on_demand_of, AskedSoFar}
 use Rattle.nv_ring.specs.Places.{WaitsFor}
 use Rattle.nv_threads.specs.Threads.{Proc, threads}
 use Rattle.nv_replay.specs.Follow.{Judge}
-use Rattle.nv_replay.specs.Hands.{has, count_above}
+use Rattle.nv_calls.specs.Hands.{has}
+use Rattle.nv_replay.specs.Hands.{count_above}
 use Rattle.nv_replay.specs.Sequence.{is_going}
 use Rattle.nv_replay.specs.Version.{Running, asking_next}
 use Rattle.nv_workers.specs.declared.follows.Next.{Next}
@@ -49,8 +50,18 @@ module _ (judges : ℕ → Judge) {K : Type 0} {G : Ghosts K} (room : Room K) (m
   AfterLead Waits = LeadsOn judges room most p v false l asked
   AfterLead Leads = ⊥
   AfterLead Hands = LeadsOn judges room most p v true l asked × (asked ≡ None)
-  AfterLead Leaves = IsLeadOf room l × (due_of l ≡ false) × HasEnded judges most (hands_of room) (on_demand_of room) (version_of_lead l) p v (lead_view l)
+  AfterLead Leaves = IsLeadOf room l × (due_of l ≡ false) × HasEnded judges most (hands_of room) (on_demand_of room) (version_of_lead l) p v (lead_view l) × AskedSoFar room l
   AfterLead Left = ⊥
+
+-- the lead is given up
+abbrev pub gives_up : Next → Bool
+gives_up Moved = false
+gives_up Ahead = false
+gives_up Waits = false
+gives_up Leads = false
+gives_up Hands = true
+gives_up Leaves = false
+gives_up Left = false
 
 -- a turn after which the version leads on, or gives up the lead, has published an event
 abbrev pub HasPublished : {T : Type 0} → View T → View T → Next → Type 0

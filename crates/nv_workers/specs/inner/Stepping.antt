@@ -2,7 +2,7 @@
 use Rattle.std.specs.Prelude.{◌≡◌, ◌<◌, ◌⊎◌, ℕ, true, false, List, length, Some, None}
 use Rattle.nv_calls.specs.declared.kernel.SyscallKernel.{Ghosts}
 use Rattle.nv_room.specs.declared.room.Room.{Room}
-use Rattle.nv_room.specs.Seats.{IsOfRoom, IsLeadOf, view, lead_view, version_of_reader, version_of_lead, due_of, hands_of, on_demand_of}
+use Rattle.nv_room.specs.Seats.{IsOfRoom, IsLeadOf, view, lead_view, version_of_reader, version_of_lead, due_of, hands_of, on_demand_of, AskedSoFar}
 use Rattle.nv_threads.specs.Threads.{Proc}
 use Rattle.nv_replay.specs.Follow.{Judge}
 use Rattle.nv_replay.specs.Sequence.{is_going}
@@ -32,7 +32,7 @@ module _ (judges : ℕ → Judge) {K : Type 0} {G : Ghosts K} (room : Room K) (p
   -- the version has its fate, and the seat has still to leave
   abbrev pub CanLeave : ℕ → Seat K G → Type 0
   CanLeave most (Reading r held) = IsOfRoom room r × HasEnded judges most (hands_of room) (on_demand_of room) (version_of_reader r) p v (view r)
-  CanLeave most (Leading l asked) = IsLeadOf room l × (due_of l ≡ false) × HasEnded judges most (hands_of room) (on_demand_of room) (version_of_lead l) p v (lead_view l)
+  CanLeave most (Leading l asked) = IsLeadOf room l × (due_of l ≡ false) × HasEnded judges most (hands_of room) (on_demand_of room) (version_of_lead l) p v (lead_view l) × AskedSoFar room l
   CanLeave most (Gone l) = ⊥
   CanLeave most Moving = ⊥
 

@@ -5,6 +5,7 @@ use denote.Param.Send.{IsSend, sendable, param_send, arg_send}
 use denote.RattleType.{RattleType}
 use Rattle.nv_arriving.proofs.Sending.{guests_send, kernel_send}
 use Rattle.nv_arriving.specs.contracts.answering.GuestsAnswers.TheImpl as GuestsAnswers
+use Rattle.nv_live.specs.Run.{DidRun}
 use Rattle.nv_live.proofs.run.LiveRun.TheSendSync.{the_field_send as run_send}
 use Rattle.nv_live.specs.contracts.run.LiveRun as LiveRun
 use Rattle.nv_live.specs.contracts.run.LiveRunOutside.TheImpl as Outside
@@ -57,13 +58,14 @@ returns-in-Ok-ran g c = λ words asked.
     let ready = c.in-Ok.ensures.ready in
     let service = c.args.service.now in
     let source = source_of g.F.Files.holds g.F.Files.faults g.F.Files.taken c.args.files.now c.prepare_live.new.files in
-    let ran = subst (λ rules. RanOver (told g.I.Source.took g.I.Source.faults g.I.Source.moments g.O.Sink.told g.O.Sink.faults g.T.Sink.told g.T.Sink.faults) service.clients c.in-Ok-kernel_over.kernel rules service.limits.calls p.script.hands.items
+    let ran = subst (λ rules. RanOver (told g.I.Source.took g.I.Source.faults g.I.Source.moments g.O.Sink.told g.O.Sink.faults g.T.Sink.told g.T.Sink.faults)
+    (DidRun g.I.Source.took g.I.Source.faults g.I.Source.moments g.O.Sink.told g.O.Sink.faults g.T.Sink.told g.T.Sink.faults) service.clients c.in-Ok-kernel_over.kernel rules service.limits.calls p.script.hands.items
     p.versions.items c.in-Ok-ran.account) c.as_ref.ensures.value (record { same = c.in-Ok-ran.ensures.start; account_is = c.in-Ok-ran.ensures.account }) in
     serve_answers words source (service_view service) asked c.in-Ok.ensures.faults (setup_of p.script) p.rules ready.machines ready.comes
     (streams_of g.I.Source.took g.I.Source.faults g.I.Source.moments g.O.Sink.told g.O.Sink.faults g.T.Sink.told g.T.Sink.faults c.args.streams) _ _ _ _ _ _
     (inl (served_by g.I.Source.took g.I.Source.faults g.I.Source.moments g.O.Sink.told g.O.Sink.faults g.T.Sink.told g.T.Sink.faults (limits_view service.limits) service.clients (setup_of p.script) c.deref.result.now p.rules
     p.script.hands.items p.versions.items ready.machines c.args.streams c.left_by-left.result.0 c.left_by-left.result.1 c.in-Ok-kernel_over.kernel c.in-Ok-ran.account (g.S.Sink.told c.args.sink.now) (g.S.Sink.faults c.args.sink.now) c.status.result
-    (c.status.ensures ∙ ap (λ versions. run_status (map standing_of versions)) c.deref-in-Ok-ran.ensures.value) ready.processes c.in-Ok.ensures.sound (subst (λ head. IsTranscript head (setup_of p.script)) (sym c.deref.ensures.value) ready.begins) ready.none c.in-Ok.ensures.planned c.in-Ok-kernel_over.ensures.begun ran c.into_outside.ensures.told c.into_outside.ensures.waited
+    (c.status.ensures ∙ ap (λ versions. run_status (map standing_of versions)) c.deref-in-Ok-ran.ensures.value) ready.processes c.in-Ok.ensures.sound (subst (λ head. IsTranscript head (setup_of p.script)) (sym c.deref.ensures.value) ready.begins) ready.none c.in-Ok.ensures.planned c.in-Ok-kernel_over.ensures.begun ran c.into_outside.ensures.waited
     (subst (λ outside. HasLeft g.T.Sink.told g.T.Sink.faults outside c.left_by-left.result.0 c.left_by-left.result.1) c.into_outside.ensures.is c.left_by-left.ensures)))
 
 -- memory was wanted for the run

@@ -12,13 +12,14 @@ use Rattle.nv_replay.specs.Version.{Running, became_event}
 use Rattle.nv_replay.proofs.Turning.{get_last}
 use Rattle.nv_room.specs.Kinds.{Stepped}
 use Rattle.nv_room.specs.Seats.{kernel_of, lead_view, stations_of}
+use Rattle.nv_room.proofs.Askings.{asked_on}
 use Rattle.nv_room.proofs.Stepped.{more_steps, no_step}
 use Rattle.nv_ring.proofs.Filling.{ready_still}
 use Rattle.nv_workers.specs.Publishing.{CanPublish, IsPublished}
-use Rattle.nv_workers.specs.Working.{LeadsOn}
-use Rattle.nv_workers.specs.inner.Leads.{IsNext}
+use Rattle.nv_workers.specs.Working.{LeadsOn, asked_by}
+use Rattle.nv_workers.specs.inner.Leads.{IsNext, gives_up}
 use Rattle.nv_workers.proofs.Growing.{none_more, one_more, one_after}
-use Rattle.nv_workers.proofs.Serving.{grew_lead, with_asked, come_lead, dropped_lead, placed_lead, reserved_lead, asked_now, waits_lead, refused_lead, after_served, after_asked, next_before, published_next, late_next}
+use Rattle.nv_workers.proofs.Serving.{grew_lead, with_asked, come_lead, dropped_lead, placed_lead, reserved_lead, asked_now, waits_lead, refused_lead, spelt_now, seen_now, published_then, asked_next, after_served, published_next, late_next}
 use Rattle.nv_workers.proofs.leads.lead_turn.Given.{Over}
 use Rattle.nv_workers.proofs.leads.lead_turn.Goals.{After-reserve, After-after_publish}
 use Rattle.nv_workers.proofs.leads.lead_turn.Goals as goal
@@ -38,7 +39,7 @@ come_to_call-requires-clause-on g c = λ none.
     s.led_from.in_step.on s.on
 
 pub returns-in_default-clause-after : goal.returns-in_default-clause-after
-returns-in_default-clause-after g c = λ j p f. (f.of, f.none_due, dropped_lead f c.come_to_call.new.version (c.in_default.ensures.dropped refl))
+returns-in_default-clause-after g c = λ j p f. (f.of, f.none_due, dropped_lead f c.come_to_call.new.version (c.in_default.ensures.dropped refl), f.asks)
 
 pub returns-in_default-clause-steps : goal.returns-in_default-clause-steps
 returns-in_default-clause-steps g c = no_step (stations_of c.args.room.now) (lead_view c.args.lead.now)
@@ -66,7 +67,7 @@ module _ (g : Over) (c : After-reserve g) where
       let e = c.in_default-place.ensures in
       let r = c.reserve.ensures in
       reserved_lead (placed_lead (come_lead f c.come_to_call.new.version c.in-Some.ensures.came.1) c.place.new.lead e.of e.same e.due e.kernel e.seen e.wrote e.spans)
-      c.reserve.new.self r.same r.view r.due r.log
+      c.reserve.new.self r.same r.view r.due r.log r.start r.handed
 
   now_leads : LeadsOn c.requires.leads.0 c.args.room.now c.args.terms.now.most c.requires.leads.1 c.come_to_call.new.version false c.reserve.new.self (Some c.in-Some.tid)
   now_leads = reserved c.requires.leads.0 c.requires.leads.1 c.requires.leads.2
@@ -79,7 +80,7 @@ refuse_memory-requires g c = λ none.
 pub returns-then-is_err-clause-after : goal.returns-then-is_err-clause-after
 returns-then-is_err-clause-after g c = λ j p f.
     let f2 = reserved g (goal.at.returns-then-is_err-clause-after g c).After-reserve j p f in
-    (f2.of, f2.none_due, refused_lead f2 c.refuse_memory.new.self c.refuse_memory.ensures)
+    (f2.of, f2.none_due, refused_lead f2 c.refuse_memory.new.self c.refuse_memory.ensures, f2.asks)
 
 pub returns-then-is_err-clause-one : goal.returns-then-is_err-clause-one
 returns-then-is_err-clause-one g c = none_more _ _ (ap (λ w. w.seen) c.reserve.ensures.view ∙ c.in_default-place.ensures.seen)
@@ -197,14 +198,25 @@ module _ (g : Over) (c : After-after_publish g) where
         version = c.answered.ensures ∙ ap (λ (x : Entry). became_event threads x c.come_to_call.new.version) (e ∙ ap (served known log) call);
       }
 
+pub next_of-requires-clause-seen : goal.next_of-requires-clause-seen
+next_of-requires-clause-seen g c κs within =
+    let here = goal.at.next_of-requires-clause-seen g c in
+    seen_now (now_leads g here.After-reserve) (published g here.After-after_publish)
+
 pub returns-clause-after : goal.returns-clause-after
 returns-clause-after g c = λ j p f.
     let here = goal.at.returns-clause-after g c in
     let f2 = reserved g here.After-reserve j p f in
     let n = c.next_of.ensures in
-    let next = subst (λ (x : List ℕ). IsNext x c.args.room.now c.answered.new.self c.publish.new.lead c.next_of.result) (sym c.requires.terms.hands)
-    (next_before c.args.terms.now.hands.now c.args.room.now c.answered.new.self c.publish.new.lead c.next_of.new.lead n.same c.next_of.result n.next) in
-    after_asked j c.args.room.now c.args.terms.now.most p c.answered.new.self c.publish.new.lead c.next_of.new.lead c.next_of.result n.same n.view n.due n.log (after_served f2 (published g here.After-after_publish) c.next_of.result next)
+    let q = published_then c.args.room.now c.come_to_call.new.version c.answered.new.self c.reserve.new.self c.publish.new.lead c.next_of.new.lead c.in-Some.tid
+    (published g here.After-after_publish) n.same n.view n.due n.log in
+    let next = subst (λ (x : List ℕ). IsNext x c.args.room.now c.answered.new.self c.next_of.new.lead c.next_of.result) (sym c.requires.terms.hands) n.next in
+    let asked = asked_on c.args.room.now c.reserve.new.self c.publish.new.lead c.publish.ensures.same c.publish.ensures.start c.publish.ensures.handed f2.asks in
+    let handed = subst (λ (x : List ℕ). (lengths : List ℕ) → g.K.SyscallKernel.handed (kernel_of c.publish.new.lead) lengths
+    → g.K.SyscallKernel.handed (kernel_of c.next_of.new.lead) (asked_by (gives_up c.next_of.result) x (length (g.K.SyscallKernel.log (kernel_of c.publish.new.lead))) lengths))
+    (sym c.requires.terms.hands) n.handed in
+    after_served f2 q c.next_of.result next (asked_next c.args.room.now c.come_to_call.new.version c.answered.new.self c.reserve.new.self c.publish.new.lead c.next_of.new.lead c.in-Some.tid
+    (published g here.After-after_publish) n.same n.view n.due n.log (gives_up c.next_of.result) (spelt_now f2 q) n.start handed asked)
 
 pub returns-clause-published : goal.returns-clause-published
 returns-clause-published g c =

@@ -15,17 +15,18 @@ pub returns-clause-account : goal.returns-clause-account
 returns-clause-account g c = λ judges most fresh ran.
     let f = c.finish-kernel.ensures in
     let kernel = c.finish-kernel.result.kernel in
-    accounted judges c.args.ran.room most ran (g.K.SyscallKernel.known kernel) (g.K.SyscallKernel.log kernel) f.lawful f.legal f.left f.wide
+    accounted judges c.args.ran.room most ran (g.K.SyscallKernel.known kernel) kernel (g.K.SyscallKernel.log kernel) f.lawful f.legal f.left f.wide
 
 pub returns-clause-foretold : goal.returns-clause-foretold
 returns-clause-foretold g c = λ told law judges most fresh ran.
     let f = c.finish-kernel.ensures in
     let kernel = c.finish-kernel.result.kernel in
     let same = law kernel ∙ ap told f.start in
-    let a = accounted judges c.args.ran.room most ran (g.K.SyscallKernel.known kernel) (g.K.SyscallKernel.log kernel) f.lawful f.legal f.left f.wide in (
+    let a = accounted judges c.args.ran.room most ran (g.K.SyscallKernel.known kernel) kernel (g.K.SyscallKernel.log kernel) f.lawful f.legal f.left f.wide in (
       a.0,
       a.1,
       subst (λ (s : Start). IsAccount threads judges s most (hands_of c.args.ran.room ++ a.0) fresh c.args.ran.versions.items (g.K.SyscallKernel.log kernel)) same a.2,
+      a.3,
     )
 
 pub returns-clause-stays : goal.returns-clause-stays

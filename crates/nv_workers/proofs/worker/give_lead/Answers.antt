@@ -14,6 +14,10 @@ pub hand-requires-clause-led : goal.hand-requires-clause-led
 hand-requires-clause-led g c κs within =
     led_now c.requires.leads.3
 
+pub hand-requires-clause-asked : goal.hand-requires-clause-asked
+hand-requires-clause-asked g c κs within =
+    c.requires.leads.3.asks
+
 pub returns-clause-follows : goal.returns-clause-follows
 returns-clause-follows g c = λ judges most p buf f.
     let h = c.hand.ensures in

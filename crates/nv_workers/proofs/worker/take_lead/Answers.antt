@@ -8,7 +8,7 @@ use Rattle.nv_workers.proofs.worker.take_lead.Goals as goal
 pub returns-clause-leads : goal.returns-clause-leads
 returns-clause-leads g c = λ j most p buf f.
     let t = c.take-lead.ensures in
-    takes_lead f c.take-lead.result c.begin_lead.new.self t.of t.station.1 t.view t.due t.log
+    takes_lead f c.take-lead.result c.begin_lead.new.self t.of t.station.1 t.view t.due t.asked t.log
     (subst IsLawful (ap g.K.SyscallKernel.log c.kernel.ensures) c.ended-end.ensures.lawful) c.begin_lead.ensures
 
 pub begin_lead-requires-clause-following : goal.begin_lead-requires-clause-following
