@@ -432,7 +432,7 @@ def page_limits(wrong):
 
 def room_steps(wrong):
     """Each step that a room's seats take on its table has one of nv_room's plays, and nv_laws has each play as a kind of step that the room allows; no other crate steps on it."""
-    plays = dict(re.findall(r"Play<[^{]*for (\w+)(?:<\w+>)? \{\s*ghost then = \{ (\w+)", read("crates/nv_room/src/plays.rt")))
+    plays = dict(re.findall(r"Play<[^{]*for (\w+)(?:<\w+>)? \{\s*(?:ghost use [^;]*;\s*)*ghost then = \{ (\w+)", read("crates/nv_room/src/plays.rt")))
     taken = set()
     for path in sorted(glob.glob(f"{ROOT}/crates/*/src/*.rt")):
         path = os.path.relpath(path, ROOT)
@@ -445,7 +445,7 @@ def room_steps(wrong):
                 wrong.append(f"{path}: {call} has no play of crates/nv_room/src/plays.rt")
     law = read("crates/nv_laws/specs/Plays.antt")
     named = {new: old for old, new in re.findall(r"(\w+) as (\w+)", law)}
-    kinds = {kind: named.get(play, play) for kind, play in re.findall(r"(?m)^  Plays \(?(\w+)[^=\n]*= .*?(\w+) (?:hist beg )?st m\b", law)}
+    kinds = {kind: named.get(play, play) for kind, play in re.findall(r"(?m)^  Plays \(?(\w+)[^=\n]*= .*?(\w+) (?:hist came )?st m\b", law)}
     allowed = set(re.findall(r"MayDo [^\n]*\(λ \w+\. (\w+)", read("crates/nv_laws/src/progress.rt")))
     wrong += [f"crates/nv_room/src: no step has the play {it}" for it in sorted(set(plays) - taken)]
     wrong += [f"crates/nv_laws/specs/Plays.antt has no kind of the play {name}" for name, then in sorted(plays.items()) if list(kinds.values()).count(then) != 1]
